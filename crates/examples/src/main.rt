@@ -1,0 +1,10 @@
+// The worked examples of the format, run. Each line names an input and what the core says of it; what must be printed
+// stands in the file stdout, written by hand from the format's rules.
+mod ids;
+mod print;
+mod varints;
+
+fn main() {
+    varints::run();
+    ids::run();
+}
