@@ -1,5 +1,6 @@
 // The worked examples of the format, run. Each line names an input and what the core says of it; what must be printed
 // stands in the file stdout, written by hand from the format's rules.
+mod headers;
 mod ids;
 mod print;
 mod varints;
@@ -7,4 +8,5 @@ mod varints;
 fn main() {
     varints::run();
     ids::run();
+    headers::run();
 }

@@ -10,6 +10,20 @@ pub(crate) fn number(n: u64) {
     io::print_decimal(STDOUT_FILENO, n);
 }
 
+// How many steps a number is from 0, or a negative one from -1.
+fn steps(n: i32) -> u32 {
+    if n >= 0 { n as u32 } else { (-1 - n) as u32 }
+}
+
+pub(crate) fn signed(n: i32) {
+    if n < 0 {
+        text(b"-");
+        number(steps(n) as u64 + 1);
+    } else {
+        number(steps(n) as u64);
+    }
+}
+
 // A byte, two digits behind a space.
 fn byte(b: u8) {
     text(b" ");

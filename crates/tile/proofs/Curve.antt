@@ -1,12 +1,12 @@
 -- The curve: the index is below 4 ^ n, and index and place undo each other. Assumes nothing.
 use Prim.Native.Nat.{ℕ, zero, suc, _+_, _-_, _*_, _/_, _%_, _^_, _<_, _≤_}
 use mathlib.Core.Path.{_≡_, refl, ap, ap₂, _∙_, subst⁻¹}
-use mathlib.Core.Bool.{Bool, true, false}
-use native.Mathlib.Nat.{mul-one, mul-le-mul-left, mul-assoc, add-mul, pow-succ', two-pow-succ, one-le-pow, mod-lt, zero-lt-suc, div-add-mod', div-lt-iff-lt-mul}
+use mathlib.Core.Bool.{Bool, true, false, cond, not}
+use native.Mathlib.Nat.{add-zero, sub-zero, mul-one, mul-le-mul-left, mul-assoc, add-mul, pow-succ', two-pow-succ, one-le-pow, mod-lt, zero-lt-suc, div-add-mod', div-lt-iff-lt-mul}
 use native.Mathlib.Omega.{arith}
 use native.Mathlib.Numerals.{add-one}
-use lib.Dec.{leb}
-use lib.Pow.{pow-pos}
+use lib.Dec.{leb, eqb}
+use lib.Pow.{pow-mono, pow-pos}
 use lib.Arith.{digits-div, digits-mod, mod-mul}
 use borrow.Author.Tests.{leb-true, leb-false, le-leb, lt-leb}
 use Rattle.tile.specs.Tile.{pair, index, placed, place}
@@ -114,21 +114,21 @@ carry : (n h r k : ℕ) → (h * 4 + r) * 4 ^ n + k ≡ h * 4 ^ suc n + (r * 4 ^
 carry n h r k = rw (pow-succ' 4 n, ← mul-assoc h 4 (4 ^ n), add-mul (h * 4) r (4 ^ n)) (omega arith)
 
 module _ (n x y p h : ℕ) (q : p ≡ 2 ^ n) where
-  pub walk-00 : x < p → y < p → h * 4 * 4 ^ n + index n y x ≡ h * 4 ^ suc n + index (suc n) x y
+  walk-00 : x < p → y < p → (h * 4 + 0) * 4 ^ n + index n (y - 0) (x - 0) ≡ h * 4 ^ suc n + index (suc n) x y
   unfolding index
-  walk-00 hx hy = rw (lt-leb (2 ^ n) x (rw (← q) hx), lt-leb (2 ^ n) y (rw (← q) hy)) (rw (← carry n h 0 (index n y x)) (ap (λ (v : ℕ). v * 4 ^ n + index n y x) (omega arith)))
+  walk-00 hx hy = rw (sub-zero x, sub-zero y, lt-leb (2 ^ n) x (rw (← q) hx), lt-leb (2 ^ n) y (rw (← q) hy)) (carry n h 0 (index n y x))
 
-  pub walk-01 : x < p → p ≤ y → (h * 4 + 1) * 4 ^ n + index n x (y - p) ≡ h * 4 ^ suc n + index (suc n) x y
+  walk-01 : x < p → p ≤ y → (h * 4 + 1) * 4 ^ n + index n (x - 0) (y - p) ≡ h * 4 ^ suc n + index (suc n) x y
   unfolding index
-  walk-01 hx hy = rw q (rw (lt-leb (2 ^ n) x (rw (← q) hx), le-leb (2 ^ n) y (rw (← q) hy)) (carry n h 1 (index n x (y - 2 ^ n))))
+  walk-01 hx hy = rw q (rw (sub-zero x, lt-leb (2 ^ n) x (rw (← q) hx), le-leb (2 ^ n) y (rw (← q) hy)) (carry n h 1 (index n x (y - 2 ^ n))))
 
-  pub walk-11 : p ≤ x → p ≤ y → (h * 4 + 2) * 4 ^ n + index n (x - p) (y - p) ≡ h * 4 ^ suc n + index (suc n) x y
+  walk-11 : p ≤ x → p ≤ y → (h * 4 + 2) * 4 ^ n + index n (x - p) (y - p) ≡ h * 4 ^ suc n + index (suc n) x y
   unfolding index
   walk-11 hx hy = rw q (rw (le-leb (2 ^ n) x (rw (← q) hx), le-leb (2 ^ n) y (rw (← q) hy)) (carry n h 2 (index n (x - 2 ^ n) (y - 2 ^ n))))
 
-  pub walk-10 : p ≤ x → y < p → (h * 4 + 3) * 4 ^ n + index n (p - 1 - y) (p - 1 - (x - p)) ≡ h * 4 ^ suc n + index (suc n) x y
+  walk-10 : p ≤ x → y < p → (h * 4 + 3) * 4 ^ n + index n (p - 1 - (y - 0)) (p - 1 - (x - p)) ≡ h * 4 ^ suc n + index (suc n) x y
   unfolding index
-  walk-10 hx hy = rw q (rw (le-leb (2 ^ n) x (rw (← q) hx), lt-leb (2 ^ n) y (rw (← q) hy)) (carry n h 3 (index n (2 ^ n - 1 - y) (2 ^ n - 1 - (x - 2 ^ n)))))
+  walk-10 hx hy = rw q (rw (sub-zero y, le-leb (2 ^ n) x (rw (← q) hx), lt-leb (2 ^ n) y (rw (← q) hy)) (carry n h 3 (index n (2 ^ n - 1 - y) (2 ^ n - 1 - (x - 2 ^ n)))))
 
 pub two-up : (n : ℕ) → 2 ^ (n + 1) ≡ 2 ^ n + 2 ^ n
 two-up n = rw add-one (two-pow-succ n)
@@ -137,7 +137,7 @@ two-up n = rw add-one (two-pow-succ n)
 pub gathered-le : (n h k t : ℕ) → h * 4 ^ n + k ≡ t → h ≤ t
 gathered-le n h k t e = omega (arith, e, mul-le-mul-left h (four-pos n), mul-one h)
 
-four-two : (n : ℕ) → 2 ^ (2 * n) ≡ 4 ^ n
+pub four-two : (n : ℕ) → 2 ^ (2 * n) ≡ 4 ^ n
 four-two zero = refl
 four-two (suc n) =
     let e : 2 * suc n ≡ suc (suc (2 * n)) = omega arith in
@@ -150,3 +150,78 @@ pub place-up : (n h x y : ℕ) → (x, y) ≡ place n (h % 4 ^ n) → placed n (
 unfolding place
 place-up n h x y e =
     rw (add-one, pow-succ' 4 n, mod-mul h {m = 4} (zero-lt-suc 3) (four-pos n), digits-div (h / 4 ^ n % 4) (mod-lt h (four-pos n)), digits-mod (h / 4 ^ n % 4) (mod-lt h (four-pos n)), four-two n, e)
+
+-- ---- the same turn, where each number is picked from two
+
+-- a number without its bit n
+module _ (n x p : ℕ) (q : p ≡ 2 ^ n) where
+  pub bit-le : cond (leb p x) p 0 ≤ x
+  bit-le = go (leb p x) refl
+    where
+      go : (b : Bool) → leb p x ≡ b → cond b p 0 ≤ x
+      go true e = leb-true p x e
+      go false e = omega arith
+
+  pub below-half : x < 2 ^ (n + 1) → x - cond (leb p x) p 0 < 2 ^ n
+  below-half h = go (leb p x) refl
+    where
+      go : (b : Bool) → leb p x ≡ b → x - cond b p 0 < 2 ^ n
+      go true e = omega (arith, two-up n, leb-true p x e)
+      go false e = omega (arith, leb-false p x e)
+
+-- what is left of x and y, and the index so far
+pub record Walked (n x y p h k u v : ℕ) : Type 0 where
+  pub x-below : u < 2 ^ n
+  pub y-below : v < 2 ^ n
+  pub same : k * 4 ^ n + index n u v ≡ h * 4 ^ suc n + index (suc n) x y
+
+module _ (n x y p h : ℕ) (q : p ≡ 2 ^ n) (hx : x < 2 ^ (n + 1)) (hy : y < 2 ^ (n + 1)) where
+  abbrev next : Bool → Bool → Type 0
+  next a b =
+      Walked n x y p h
+      (h * 4 + cond a (cond b 2 3) (cond b 1 0))
+      (cond b (x - cond a p 0) (cond a (p - 1 - (y - cond b p 0)) (y - cond b p 0)))
+      (cond b (y - cond b p 0) (cond a (p - 1 - (x - cond a p 0)) (x - cond a p 0)))
+
+  walk-by : (a b : Bool) → leb p x ≡ a → leb p y ≡ b → next a b
+  walk-by true true e f =
+      let u : p ≤ x = leb-true p x e in
+      let v : p ≤ y = leb-true p y f in
+      record { x-below = omega (arith, two-up n); y-below = omega (arith, two-up n); same = walk-11 n x y p h q u v }
+  walk-by true false e f =
+      let u : p ≤ x = leb-true p x e in
+      let v : y < p = leb-false p y f in
+      record { x-below = omega (arith, two-up n, pow-pos n); y-below = omega (arith, two-up n, pow-pos n); same = walk-10 n x y p h q u v }
+  walk-by false true e f =
+      let u : x < p = leb-false p x e in
+      let v : p ≤ y = leb-true p y f in
+      record { x-below = omega (arith, two-up n); y-below = omega (arith, two-up n); same = walk-01 n x y p h q u v }
+  walk-by false false e f =
+      let u : x < p = leb-false p x e in
+      let v : y < p = leb-false p y f in
+      record { x-below = omega arith; y-below = omega arith; same = walk-00 n x y p h q u v }
+
+  pub walked : next (leb p x) (leb p y)
+  walked = walk-by (leb p x) (leb p y) refl refl
+
+-- ---- and the turn back
+
+module _ (n x y p : ℕ) (q : p ≡ 2 ^ n) where
+  pub unwalked : (d : ℕ) → d < 4
+      → (
+        cond (not (eqb (d % 3) 0)) (cond (eqb d 3) (p - 1 - x) x) (cond (eqb d 3) (p - 1 - y) y) + cond (leb 2 d) p 0,
+        cond (not (eqb (d % 3) 0)) (cond (eqb d 3) (p - 1 - y) y) (cond (eqb d 3) (p - 1 - x) x) + cond (not (eqb (d % 3) 0)) p 0,
+      )
+      ≡ placed n d (x, y)
+  unwalked zero h = rw (add-zero x, add-zero y)
+  unwalked (suc zero) h = rw (q, add-zero x)
+  unwalked (suc (suc zero)) h = rw q
+  unwalked (suc (suc (suc zero))) h = rw (q, add-zero (2 ^ n - 1 - x))
+  unwalked (suc (suc (suc (suc d)))) h = absurd (omega arith)
+
+pub unstep-fits : (n d x y p : ℕ) → p ≡ 2 ^ n → n < 31 → x < 2 ^ n → y < 2 ^ n → d < 4
+    → (cond (not (eqb (d % 3) 0)) (cond (eqb d 3) (p - 1 - x) x) (cond (eqb d 3) (p - 1 - y) y) + cond (leb 2 d) p 0 < 2 ^ 32)
+    × (cond (not (eqb (d % 3) 0)) (cond (eqb d 3) (p - 1 - y) y) (cond (eqb d 3) (p - 1 - x) x) + cond (not (eqb (d % 3) 0)) p 0 < 2 ^ 32)
+unstep-fits n d x y p q hn hx hy hd =
+    let i = subst⁻¹ (Inside (suc n)) (unwalked n x y p q d hd) (inside-step n d (x, y) (hx, hy)) in
+    (omega (arith, i .0, pow-mono {i = suc n} {j = 31} (omega arith)), omega (arith, i .1, pow-mono {i = suc n} {j = 31} (omega arith)))

@@ -73,3 +73,22 @@ coord-and-back id = go (isId id) refl
         let v = coord-valid id h in
         rw (coord-is _ _ _ (v .0) (v .1 .0) (v .1 .1), id-of-coord id h)
     go false e = refl
+
+-- ---- what was made by a constructor converts as the numbers do
+
+pub made-coord : (z x y : ℕ) → newCoord z x y >>= (λ (z, p). toId z (p .0) (p .1)) ≡ toId z x y
+unfolding newCoord toId
+made-coord z x y = go (isCoord z x y) refl
+  where
+    go : (b : Bool) → isCoord z x y ≡ b
+        → need {A = ℕ × (ℕ × ℕ)} b 6 (ok (z, (x, y))) >>= (λ (z, p). need (isCoord z (p .0) (p .1)) 6 (ok (tileId z (p .0) (p .1)))) ≡ need b 6 (ok (tileId z x y))
+    go true e = rw e
+    go false e = refl
+
+pub made-id : (id : ℕ) → newId id >>= toCoord ≡ toCoord id
+unfolding newId toCoord
+made-id id = go (isId id) refl
+  where
+    go : (b : Bool) → isId id ≡ b → need b 7 (ok id) >>= (λ i. need (isId i) 7 (ok (coordOf i))) ≡ need b 7 (ok (coordOf id))
+    go true e = rw e
+    go false e = refl

@@ -1,5 +1,6 @@
 // The Hilbert curve of a zoom: from coordinates to the place on it, and back, one pair of bits at a time.
 ghost use mathlib.Core.Path.{_≡_};
+ghost use mathlib.Core.Bool.{cond};
 ghost use Prim.Native.Nat.{suc, _+_, _*_, _^_, _<_, _≤_};
 ghost use Rattle.tile.specs.Tile.{index, place, placed};
 ghost use Rattle.tile.specs.Answers.{isCoord};
@@ -27,6 +28,23 @@ pub(crate) fn is_coord(z: u8, x: u32, y: u32) -> bool
     true
 }
 
+// One of two numbers that are both at hand: no branch on a tile's bits, which no processor foresees.
+fn pick(test: bool, yes: u32, no: u32) -> u32
+    ensures { λ r. ⌜ r ≡ cond test yes no ⌝ }
+{
+    if test { yes } else { no }
+}
+
+fn rank(right: bool, upper: bool) -> u64
+    ensures { λ r. ⌜ (r ≡ cond right (cond upper 2 3) (cond upper 1 0)) × (r < 4) ⌝ }
+{
+    if right {
+        if upper { 2 } else { 3 }
+    } else {
+        if upper { 1 } else { 0 }
+    }
+}
+
 // The index of the bits passed, and what is left of x and y.
 struct Walk {
     h: u64,
@@ -39,34 +57,18 @@ fn step(w: Walk, i: u32) -> Walk
     requires { ⌜ (i < 31) × (w .h < 4 ^ 31) × (w .x < 2 ^ (i + 1)) × (w .y < 2 ^ (i + 1)) ⌝ }
     ensures { λ r. ⌜ (r .x < 2 ^ i) × (r .y < 2 ^ i) × (r .h * 4 ^ i + index i (r .x) (r .y) ≡ w .h * 4 ^ suc i + index (suc i) (w .x) (w .y)) ⌝ }
 {
+    let h = w.h;
+    let wx = w.x;
+    let wy = w.y;
     let half = power(i);
-    let x = w.x;
-    let y = w.y;
-    if x < half {
-        if y < half {
-            return Walk {
-                h: w.h * 4,
-                x: y,
-                y: x,
-            };
-        }
-        return Walk {
-            h: w.h * 4 + 1,
-            x: x,
-            y: y - half,
-        };
-    }
-    if y < half {
-        return Walk {
-            h: w.h * 4 + 3,
-            x: half - 1 - y,
-            y: half - 1 - (x - half),
-        };
-    }
+    let right = half <= wx;
+    let upper = half <= wy;
+    let x = wx - pick(right, half, 0);
+    let y = wy - pick(upper, half, 0);
     Walk {
-        h: w.h * 4 + 2,
-        x: x - half,
-        y: y - half,
+        h: h * 4 + rank(right, upper),
+        x: pick(upper, x, pick(right, half - 1 - y, y)),
+        y: pick(upper, y, pick(right, half - 1 - x, x)),
     }
 }
 
@@ -94,23 +96,13 @@ fn unstep(p: Spot, i: u32, d: u64) -> Spot
     ensures { λ r. ⌜ (r .x, r .y) ≡ placed i d (p .x, p .y) ⌝ }
 {
     let half = power(i);
-    let x = p.x;
-    let y = p.y;
-    if d == 0 {
-        return Spot { x: y, y: x };
-    }
-    if d == 1 {
-        return Spot { x: x, y: y + half };
-    }
-    if d == 2 {
-        return Spot {
-            x: x + half,
-            y: y + half,
-        };
-    }
+    let straight = d % 3 != 0;
+    let last = d == 3;
+    let x = pick(last, half - 1 - p.x, p.x);
+    let y = pick(last, half - 1 - p.y, p.y);
     Spot {
-        x: (half - 1 - y) + half,
-        y: half - 1 - x,
+        x: pick(straight, x, y) + pick(2 <= d, half, 0),
+        y: pick(straight, y, x) + pick(straight, half, 0),
     }
 }
 

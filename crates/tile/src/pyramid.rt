@@ -4,7 +4,7 @@ ghost use Prim.Native.Nat.{_<_, _≤_};
 ghost use Rattle.tile.specs.Tile.{base, zoomOf, Bases};
 ghost use Rattle.tile.specs.Answers.{maxId};
 
-// The number of tiles below each zoom.
+// The number of tiles below each zoom, from which the zoom of an id is found.
 pub const PYRAMID_SIZE_BY_ZOOM: [u64; 32] = [
     0,
     1,
@@ -40,12 +40,12 @@ pub const PYRAMID_SIZE_BY_ZOOM: [u64; 32] = [
     1537228672809129301,
 ];
 
-// The first id of a zoom.
+// The first id of a zoom. By arithmetic, since a use of the table lays all of it.
 pub(crate) fn base_of(z: u8) -> u64
     requires { ⌜ z < 32 ⌝ }
     ensures { λ r. ⌜ r ≡ base z ⌝ }
 {
-    PYRAMID_SIZE_BY_ZOOM[z as usize]
+    ((1u64 << (2 * (z as u64))) - 1) / 3
 }
 
 // A zoom and its first id.

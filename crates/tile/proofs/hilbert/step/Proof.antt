@@ -1,80 +1,83 @@
 -- `hilbert::step` meets its contract. Assumes nothing.
 use native.Mathlib.Omega.{arith}
-use lib.Pow.{pow-pos}
 use borrow.Author.Needs.{needs}
-use Rattle.tile.proofs.Curve.{two-up, walk-00, walk-01, walk-10, walk-11}
+use Rattle.tile.proofs.Curve.{below-half, bit-le, walked}
 use Rattle.tile.proofs.hilbert.step.Statement.{statement}
 use Rattle.tile.proofs.hilbert.step.Tie as tie
 
 power-requires : tie.Need-power-requires
 power-requires c κs = search needs
 
-mul-t8 : tie.Need-mul-t8
-mul-t8 c = search needs
+pick-requires : tie.Need-pick-requires
+pick-requires c κs = search needs
 
-returns : tie.Need-returns
-returns c = let s = c .before .before .before .before .args in let q = c .before .before .before .power .ensures in
-    (omega arith, omega arith, walk-00 (s .i) (s .w .x) (s .w .y) _ (s .w .h) q (c .before .before .if1 .taken) (c .before .if2 .taken))
+sub-x : tie.Need-sub-x
+sub-x c = rw (c .pick .ensures) (bit-le _ _ _ (c .before .power .ensures))
 
-mul-t9 : tie.Need-mul-t9
-mul-t9 c = search needs
+pick-requires-2 : tie.Need-pick-requires-2
+pick-requires-2 c κs = search needs
 
-add-t10 : tie.Need-add-t10
-add-t10 c = search needs
-
-returns-2 : tie.Need-returns-2
-returns-2 c = let s = c .before .before .before .before .args in let q = c .before .before .before .power .ensures in
-    (omega (arith, two-up (s .i)), omega (arith, two-up (s .i)), walk-01 (s .i) (s .w .x) (s .w .y) _ (s .w .h) q (c .before .before .if1 .taken) (c .before .if2 .left))
+sub-y : tie.Need-sub-y
+sub-y c = rw (c .pick2 .ensures) (bit-le _ _ _ (c .before .before .power .ensures))
 
 mul-t12 : tie.Need-mul-t12
 mul-t12 c = search needs
 
-add-t13 : tie.Need-add-t13
-add-t13 c = search needs
+rank-requires : tie.Need-rank-requires
+rank-requires c κs = search needs
 
-sub-t14 : tie.Need-sub-t14
-sub-t14 c = search needs
+add-t14 : tie.Need-add-t14
+add-t14 c = search needs
 
-sub-t15 : tie.Need-sub-t15
-sub-t15 c = search needs
+sub-pick : tie.Need-sub-pick
+sub-pick c = omega (arith, c .before .pick2 .ensures, below-half (c .before .before .before .before .args .i) (c .before .before .before .before .args .w .y) _ (c .before .before .before .power .ensures) (c .before .before .before .before .pre .3))
 
-sub-t16 : tie.Need-sub-t16
-sub-t16 c = search needs
+sub-pick-2 : tie.Need-sub-pick-2
+sub-pick-2 c = omega (arith, c .before .pick2 .ensures, below-half (c .before .before .before .before .args .i) (c .before .before .before .before .args .w .y) _ (c .before .before .before .power .ensures) (c .before .before .before .before .pre .3))
 
-sub-t18 : tie.Need-sub-t18
-sub-t18 c = omega (arith, two-up (c .before .before .before .before .args .i))
+pick-requires-3 : tie.Need-pick-requires-3
+pick-requires-3 c κs = search needs
 
-returns-3 : tie.Need-returns-3
-returns-3 c = let s = c .before .before .before .before .args in let q = c .before .before .before .power .ensures in
-    (omega (arith, two-up (s .i), pow-pos (s .i)), omega (arith, two-up (s .i), pow-pos (s .i)), walk-10 (s .i) (s .w .x) (s .w .y) _ (s .w .h) q (c .before .before .if1 .left) (c .before .if3 .taken))
+pick-requires-4 : tie.Need-pick-requires-4
+pick-requires-4 c κs = search needs
 
-mul-t19 : tie.Need-mul-t19
-mul-t19 c = search needs
+sub-pick-3 : tie.Need-sub-pick-3
+sub-pick-3 c = omega (arith, c .before .before .before .before .pick .ensures, below-half (c .before .before .before .before .before .before .args .i) (c .before .before .before .before .before .before .args .w .x) _ (c .before .before .before .before .before .power .ensures) (c .before .before .before .before .before .before .pre .2))
 
-add-t20 : tie.Need-add-t20
-add-t20 c = search needs
+sub-pick-4 : tie.Need-sub-pick-4
+sub-pick-4 c = omega (arith, c .before .before .before .before .pick .ensures, below-half (c .before .before .before .before .before .before .args .i) (c .before .before .before .before .before .before .args .w .x) _ (c .before .before .before .before .before .power .ensures) (c .before .before .before .before .before .before .pre .2))
 
-returns-4 : tie.Need-returns-4
-returns-4 c = let s = c .before .before .before .before .args in let q = c .before .before .before .power .ensures in
-    (omega (arith, two-up (s .i)), omega (arith, two-up (s .i)), walk-11 (s .i) (s .w .x) (s .w .y) _ (s .w .h) q (c .before .before .if1 .left) (c .before .if3 .left))
+pick-requires-5 : tie.Need-pick-requires-5
+pick-requires-5 c κs = search needs
+
+pick-requires-6 : tie.Need-pick-requires-6
+pick-requires-6 c κs = search needs
+
+returns : tie.Need-returns
+returns c =
+    let a = c .before .before .before .before .before .before .before .before .args in
+    let w = walked (a .i) (a .w .x) (a .w .y) _ (a .w .h) (c .before .before .before .before .before .before .before .power .ensures) (c .before .before .before .before .before .before .before .before .pre .2) (c .before .before .before .before .before .before .before .before .pre .3) in
+    rw (c .pick6 .ensures, c .before .pick5 .ensures, c .before .before .pick4 .ensures, c .before .before .before .pick3 .ensures, c .before .before .before .before .rank .ensures .0, c .before .before .before .before .before .pick2 .ensures, c .before .before .before .before .before .before .pick .ensures)
+    (w .x-below, w .y-below, w .same)
 
 pub step-spec : {M : Type 1} → statement M
 step-spec =
     tie.close
     (tie.spec
     power-requires
-    mul-t8
-    returns
-    mul-t9
-    add-t10
-    returns-2
+    pick-requires
+    sub-x
+    pick-requires-2
+    sub-y
     mul-t12
-    add-t13
-    sub-t14
-    sub-t15
-    sub-t16
-    sub-t18
-    returns-3
-    mul-t19
-    add-t20
-    returns-4)
+    rank-requires
+    add-t14
+    sub-pick
+    sub-pick-2
+    pick-requires-3
+    pick-requires-4
+    sub-pick-3
+    sub-pick-4
+    pick-requires-5
+    pick-requires-6
+    returns)

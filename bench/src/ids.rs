@@ -1,0 +1,44 @@
+//! Ids both ways, against tile.rs over the stand-in for fast_hilbert, which goes bit by bit.
+use crate::{Random, compare, core};
+use pmtiles::{TileCoord, TileId};
+
+const COUNT: usize = 1_000_000;
+
+fn mixed(sum: u64, x: u64) -> u64 {
+    sum.wrapping_mul(31).wrapping_add(x)
+}
+
+pub fn run() {
+    for (name, lowest, zooms) in [("zooms 0 to 31", 0, 32), ("zoom 14", 14, 1)] {
+        let mut random = Random::new();
+        let coords: Vec<(u8, u32, u32)> = (0..COUNT)
+            .map(|_| {
+                let z = (lowest + random.below(zooms)) as u8;
+                (z, random.below(1 << z) as u32, random.below(1 << z) as u32)
+            })
+            .collect();
+        let ids: Vec<u64> = coords.iter().map(|&(z, x, y)| core::tile_id(z, x, y)).collect();
+        compare(
+            &format!("id of a coordinate, {name}"),
+            COUNT,
+            || coords.iter().fold(0, |s, &(z, x, y)| mixed(s, core::tile_id(z, x, y))),
+            || coords.iter().fold(0, |s, &(z, x, y)| mixed(s, TileId::from(TileCoord::new(z, x, y).unwrap()).value())),
+        );
+        compare(
+            &format!("coordinate of an id, {name}"),
+            COUNT,
+            || {
+                ids.iter().fold(0, |s, &id| {
+                    let [z, x, y] = core::tile_coord(id);
+                    mixed(s, z ^ x << 8 ^ y << 40)
+                })
+            },
+            || {
+                ids.iter().fold(0, |s, &id| {
+                    let c = TileCoord::from(TileId::new(id).unwrap());
+                    mixed(s, u64::from(c.z()) ^ u64::from(c.x()) << 8 ^ u64::from(c.y()) << 40)
+                })
+            },
+        );
+    }
+}

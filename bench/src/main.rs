@@ -1,0 +1,56 @@
+//! The proved core and the Rust on the same work, in turn, in one process. Each figure is the best of several rounds, and
+//! both sides' results are compared. A ratio above 1 says that the core is faster.
+mod core;
+mod ids;
+
+use std::hint::black_box;
+use std::time::Instant;
+
+/// xorshift64: the same numbers in every run.
+pub struct Random(u64);
+
+impl Random {
+    pub fn new() -> Self {
+        Self(88172645463325252)
+    }
+
+    pub fn next(&mut self) -> u64 {
+        self.0 ^= self.0 << 13;
+        self.0 ^= self.0 >> 7;
+        self.0 ^= self.0 << 17;
+        self.0
+    }
+
+    pub fn below(&mut self, n: u64) -> u64 {
+        self.next() % n
+    }
+}
+
+const ROUNDS: usize = 9;
+
+/// Times `n` units of work on both sides. What each returns is a sum over its results, and must agree.
+pub fn compare(name: &str, n: usize, mut ours: impl FnMut() -> u64, mut rust: impl FnMut() -> u64) {
+    let mut best = [f64::MAX; 2];
+    for _ in 0..ROUNDS {
+        let start = Instant::now();
+        let a = black_box(ours());
+        best[0] = best[0].min(start.elapsed().as_secs_f64());
+        let start = Instant::now();
+        let b = black_box(rust());
+        best[1] = best[1].min(start.elapsed().as_secs_f64());
+        assert_eq!(a, b, "{name}: the two sides disagree");
+    }
+    let each = best.map(|seconds| seconds * 1e9 / n as f64);
+    println!("{name:<44} {:>12.2} {:>12.2} {:>8.2}", each[0], each[1], each[1] / each[0]);
+}
+
+fn main() {
+    let words: Vec<String> = std::env::args().skip(1).collect();
+    println!("{:<44} {:>12} {:>12} {:>8}", "ns for one", "core", "Rust", "ratio");
+    let parts: [(&str, fn()); 1] = [("ids", ids::run)];
+    for (name, run) in parts {
+        if words.is_empty() || words.iter().any(|w| name.contains(w.as_str())) {
+            run();
+        }
+    }
+}

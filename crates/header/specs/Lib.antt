@@ -1,0 +1,5 @@
+pub mod Degrees
+pub mod Bytes
+pub mod Header
+pub mod Settled
+pub mod Answers

@@ -1,0 +1,15 @@
+// Values put into lent slots.
+ghost use mathlib.Core.Path.{_≡_};
+ghost use mathlib.Core.List.{_∷_, []};
+ghost use Prim.Native.Nat.{_+_, _≤_};
+ghost use lib.ListN.{length};
+ghost use lib.Seq.{sets};
+
+pub(crate) fn put_three(out: &mut [u64], at: usize, a: u64, b: u64, c: u64)
+    requires { ⌜ at + 3 ≤ length (now out) ⌝ }
+    ensures { λ _. ⌜ now (out .exit) ≡ sets (now (out .entry)) at (a ∷ b ∷ c ∷ []) ⌝ }
+{
+    out[at] = a;
+    out[at + 1] = b;
+    out[at + 2] = c;
+}
