@@ -1,12 +1,8 @@
 //! Ids both ways, against tile.rs over the stand-in for fast_hilbert, which goes bit by bit.
-use crate::{Random, compare, core};
+use crate::{Random, compare, core, mixed};
 use pmtiles::{TileCoord, TileId};
 
 const COUNT: usize = 1_000_000;
-
-fn mixed(sum: u64, x: u64) -> u64 {
-    sum.wrapping_mul(31).wrapping_add(x)
-}
 
 pub fn run() {
     for (name, lowest, zooms) in [("zooms 0 to 31", 0, 32), ("zoom 14", 14, 1)] {
@@ -22,7 +18,11 @@ pub fn run() {
             &format!("id of a coordinate, {name}"),
             COUNT,
             || coords.iter().fold(0, |s, &(z, x, y)| mixed(s, core::tile_id(z, x, y))),
-            || coords.iter().fold(0, |s, &(z, x, y)| mixed(s, TileId::from(TileCoord::new(z, x, y).unwrap()).value())),
+            || {
+                coords.iter().fold(0, |s, &(z, x, y)| {
+                    mixed(s, TileId::from(TileCoord::new(z, x, y).unwrap()).value())
+                })
+            },
         );
         compare(
             &format!("coordinate of an id, {name}"),

@@ -1,7 +1,9 @@
 //! The proved core and the Rust on the same work, in turn, in one process. Each figure is the best of several rounds, and
 //! both sides' results are compared. A ratio above 1 says that the core is faster.
 mod core;
+mod directories;
 mod ids;
+mod lookups;
 
 use std::hint::black_box;
 use std::time::Instant;
@@ -26,6 +28,11 @@ impl Random {
     }
 }
 
+/// One number more in a sum that sees the order.
+pub fn mixed(sum: u64, x: u64) -> u64 {
+    sum.wrapping_mul(31).wrapping_add(x)
+}
+
 const ROUNDS: usize = 9;
 
 /// Times `n` units of work on both sides. What each returns is a sum over its results, and must agree.
@@ -41,13 +48,22 @@ pub fn compare(name: &str, n: usize, mut ours: impl FnMut() -> u64, mut rust: im
         assert_eq!(a, b, "{name}: the two sides disagree");
     }
     let each = best.map(|seconds| seconds * 1e9 / n as f64);
-    println!("{name:<44} {:>12.2} {:>12.2} {:>8.2}", each[0], each[1], each[1] / each[0]);
+    println!(
+        "{name:<44} {:>12.2} {:>12.2} {:>8.2}",
+        each[0],
+        each[1],
+        each[1] / each[0]
+    );
 }
 
 fn main() {
     let words: Vec<String> = std::env::args().skip(1).collect();
     println!("{:<44} {:>12} {:>12} {:>8}", "ns for one", "core", "Rust", "ratio");
-    let parts: [(&str, fn()); 1] = [("ids", ids::run)];
+    let parts: [(&str, fn()); 3] = [
+        ("ids", ids::run),
+        ("directories", directories::run),
+        ("lookups", lookups::run),
+    ];
     for (name, run) in parts {
         if words.is_empty() || words.iter().any(|w| name.contains(w.as_str())) {
             run();

@@ -1,7 +1,9 @@
 // The worked examples of the format, run. Each line names an input and what the core says of it; what must be printed
 // stands in the file stdout, written by hand from the format's rules.
+mod directories;
 mod headers;
 mod ids;
+mod lookups;
 mod print;
 mod varints;
 
@@ -9,4 +11,6 @@ fn main() {
     varints::run();
     ids::run();
     headers::run();
+    directories::run();
+    lookups::run();
 }

@@ -2,11 +2,12 @@
 use Prim.Native.Nat.{ℕ, _≤_, _<_}
 use mathlib.Core.Path.{_≡_, refl}
 use mathlib.Core.List.{List}
+use mathlib.Core.Option.{Option, none, some}
 use lib.ListN.{length}
 use lib.Seq.{sets}
 use borrow.Author.Tests.{le-leb, lt-leb}
 use Rattle.refusal.specs.Out.{Out, ok, bad}
-use Rattle.pmtiles.specs.Exports.{Answered, within}
+use Rattle.pmtiles.specs.Exports.{Answered, Sought, within}
 
 module _ {A : Type 0} (k : ℕ) (slots : List ℕ) (x : Out A) (values : A → List ℕ) where
   pub short : length slots < k → Answered (within k slots x) values slots 15 slots
@@ -17,3 +18,17 @@ module _ {A : Type 0} (k : ℕ) (slots : List ℕ) (x : Out A) (values : A → L
 
   pub given : (a : A) → k ≤ length slots → ok a ≡ x → Answered (within k slots x) values slots 0 (sets slots 0 (values a))
   given a h e = rw (le-leb k (length slots) h, ← e) (record { says = refl; fills = refl })
+
+module _ {A : Type 0} (k : ℕ) (slots : List ℕ) (x : Out (Option A)) (values : A → List ℕ) where
+  pub no-room : length slots < k → Sought (within k slots x) values slots 15 slots
+  no-room h = rw (lt-leb k (length slots) h) (record { says = refl; fills = refl })
+
+  module _ (room : k ≤ length slots) where
+    pub search-refused : (n : ℕ) → bad n ≡ x → Sought (within k slots x) values slots n slots
+    search-refused n e = rw (le-leb k (length slots) room, ← e) (record { says = refl; fills = refl })
+
+    pub nothing : ok none ≡ x → Sought (within k slots x) values slots 255 slots
+    nothing e = rw (le-leb k (length slots) room, ← e) (record { says = refl; fills = refl })
+
+    pub there : (a : A) → ok (some a) ≡ x → Sought (within k slots x) values slots 0 (sets slots 0 (values a))
+    there a e = rw (le-leb k (length slots) room, ← e) (record { says = refl; fills = refl })

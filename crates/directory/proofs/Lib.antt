@@ -1,0 +1,17 @@
+pub mod Checks
+pub mod Checked
+pub mod Covers
+pub mod Offsets
+pub mod Column
+pub mod Round
+pub mod Turns
+pub mod Slots
+pub mod Places
+pub mod Kept
+pub mod Last
+pub mod Past
+pub mod Rows
+pub mod Walks
+pub mod Sweeps
+pub mod Agree
+pub mod Only

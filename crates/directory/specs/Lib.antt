@@ -1,0 +1,8 @@
+pub mod Entries
+pub mod Columns
+pub mod Decode
+pub mod Encode
+pub mod Search
+pub mod Answers
+pub mod Stores
+pub mod Walk

@@ -1,0 +1,46 @@
+// A directory: entries that say where the contents of tiles lie, and pointers to further directories.
+//
+// Stores are lent as four slices, always in the order ids, runs, lengths, offsets.
+use refusal::Refusal;
+use tile::TileId;
+
+mod columns;
+mod entries;
+mod reading;
+mod search;
+mod stores;
+mod sweep;
+mod walk;
+
+pub use reading::read;
+pub use search::find_tile_id;
+pub use sweep::find;
+pub use walk::Columns;
+pub use walk::Next;
+pub use walk::Opened;
+pub use walk::Row;
+
+// A place in the tile data, or in the section of leaves.
+pub struct Offset(pub u64);
+
+// A run of tiles that share their contents; a run of 0 is a pointer to a leaf.
+pub struct DirEntry {
+    pub tile_id: TileId,
+    pub run_length: u32,
+    pub length: u32,
+    pub offset: Offset,
+}
+
+// What reading into stores finds: how many entries, and how many bytes they took.
+pub enum DirectoryRead {
+    Entries(usize, usize),
+    Refused(Refusal),
+}
+
+// What a search finds.
+pub enum Found {
+    Tile(DirEntry),
+    Leaf(DirEntry),
+    Absent,
+    Refused(Refusal),
+}

@@ -1,0 +1,4 @@
+pub mod Inside
+pub mod Descents
+pub mod Lookups
+pub mod Only
