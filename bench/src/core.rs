@@ -17,6 +17,38 @@ unsafe extern "C" {
         out: *mut u64,
         out_len: usize,
     ) -> u8;
+    fn pmt_build_sizes(
+        count: usize,
+        ids: *const u64,
+        ids_len: usize,
+        runs: *const u32,
+        runs_len: usize,
+        lengths: *const u32,
+        lengths_len: usize,
+        offsets: *const u64,
+        offsets_len: usize,
+        data_length: u64,
+        out: *mut u64,
+        out_len: usize,
+    ) -> u8;
+    fn pmt_build(
+        count: usize,
+        ids: *const u64,
+        ids_len: usize,
+        runs: *const u32,
+        runs_len: usize,
+        lengths: *const u32,
+        lengths_len: usize,
+        offsets: *const u64,
+        offsets_len: usize,
+        data_length: u64,
+        root: *mut u8,
+        root_len: usize,
+        leaves: *mut u8,
+        leaves_len: usize,
+        out: *mut u64,
+        out_len: usize,
+    ) -> u8;
     fn pmt_lookup(archive: *const u8, len: usize, id: u64, out: *mut u64, out_len: usize) -> u8;
 }
 
@@ -74,6 +106,15 @@ impl Stores {
         }
     }
 
+    pub fn from_rows(rows: &[(u64, u32, u32, u64)]) -> Self {
+        Self {
+            ids: rows.iter().map(|r| r.0).collect(),
+            runs: rows.iter().map(|r| r.1).collect(),
+            lengths: rows.iter().map(|r| r.2).collect(),
+            offsets: rows.iter().map(|r| r.3).collect(),
+        }
+    }
+
     pub fn row(&self, i: usize) -> (u64, u32, u32, u64) {
         (self.ids[i], self.runs[i], self.lengths[i], self.offsets[i])
     }
@@ -99,4 +140,52 @@ pub fn directory_read(bytes: &[u8], s: &mut Stores) -> u64 {
         )
     });
     out[0]
+}
+
+/// Bytes of the root and of the leaves.
+pub fn build_sizes(s: &Stores, data_length: u64) -> [usize; 2] {
+    let mut out = [0; 2];
+    done(unsafe {
+        pmt_build_sizes(
+            s.ids.len(),
+            s.ids.as_ptr(),
+            s.ids.len(),
+            s.runs.as_ptr(),
+            s.runs.len(),
+            s.lengths.as_ptr(),
+            s.lengths.len(),
+            s.offsets.as_ptr(),
+            s.offsets.len(),
+            data_length,
+            out.as_mut_ptr(),
+            out.len(),
+        )
+    });
+    out.map(|n| n as usize)
+}
+
+/// Bytes of the root and of the leaves, entries, addressed tiles.
+pub fn build(s: &Stores, data_length: u64, root: &mut [u8], leaves: &mut [u8]) -> [u64; 4] {
+    let mut out = [0; 4];
+    done(unsafe {
+        pmt_build(
+            s.ids.len(),
+            s.ids.as_ptr(),
+            s.ids.len(),
+            s.runs.as_ptr(),
+            s.runs.len(),
+            s.lengths.as_ptr(),
+            s.lengths.len(),
+            s.offsets.as_ptr(),
+            s.offsets.len(),
+            data_length,
+            root.as_mut_ptr(),
+            root.len(),
+            leaves.as_mut_ptr(),
+            leaves.len(),
+            out.as_mut_ptr(),
+            out.len(),
+        )
+    });
+    out
 }

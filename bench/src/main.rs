@@ -1,5 +1,6 @@
 //! The proved core and the Rust on the same work, in turn, in one process. Each figure is the best of several rounds, and
 //! both sides' results are compared. A ratio above 1 says that the core is faster.
+mod building;
 mod core;
 mod directories;
 mod ids;
@@ -33,7 +34,7 @@ pub fn mixed(sum: u64, x: u64) -> u64 {
     sum.wrapping_mul(31).wrapping_add(x)
 }
 
-const ROUNDS: usize = 9;
+pub const ROUNDS: usize = 9;
 
 /// Times `n` units of work on both sides. What each returns is a sum over its results, and must agree.
 pub fn compare(name: &str, n: usize, mut ours: impl FnMut() -> u64, mut rust: impl FnMut() -> u64) {
@@ -59,10 +60,11 @@ pub fn compare(name: &str, n: usize, mut ours: impl FnMut() -> u64, mut rust: im
 fn main() {
     let words: Vec<String> = std::env::args().skip(1).collect();
     println!("{:<44} {:>12} {:>12} {:>8}", "ns for one", "core", "Rust", "ratio");
-    let parts: [(&str, fn()); 3] = [
+    let parts: [(&str, fn()); 4] = [
         ("ids", ids::run),
         ("directories", directories::run),
         ("lookups", lookups::run),
+        ("building", building::run),
     ];
     for (name, run) in parts {
         if words.is_empty() || words.iter().any(|w| name.contains(w.as_str())) {

@@ -1,5 +1,5 @@
 pub mod Checks
-pub mod Checked
+pub mod ByEntry
 pub mod Covers
 pub mod Offsets
 pub mod Column

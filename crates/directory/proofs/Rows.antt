@@ -15,7 +15,7 @@ use Rattle.directory.specs.Columns.{columnAt, columns, endOf, entries, i
 use Rattle.directory.specs.Decode.{decode, ended}
 use Rattle.directory.specs.Walk.{columnsAt, openIn, past, restIn, rowAt, rowsFrom, rowsIn, stepAt}
 use Rattle.directory.specs.declared.walk.Columns.{Columns}
-use Rattle.directory.proofs.Checked.{check-bind}
+use Rattle.directory.proofs.ByEntry.{check-bind}
 use Rattle.directory.proofs.Column.{column-bridge}
 
 -- ---- a column that was read has a first number and a rest

@@ -13,7 +13,7 @@ use Rattle.directory.specs.Search.{Hit, findIn, hit, lastAt, later, sear
 use Rattle.directory.specs.Answers.{checked}
 use Rattle.directory.specs.Walk.{nextIn, openIn, restIn, sweepIn}
 use Rattle.directory.specs.declared.walk.Columns.{Columns}
-use Rattle.directory.proofs.Checked.{check-checked, checked-after}
+use Rattle.directory.proofs.ByEntry.{check-checked, checked-after}
 use Rattle.directory.proofs.Rows.{decode-rows}
 use Rattle.directory.proofs.Walks.{rest-bad, rest-end, rest-row, rest-same}
 

@@ -2,15 +2,10 @@
 ghost use mathlib.Core.Path.{_≡_};
 ghost use Rattle.directory.specs.Columns.{endOf, offsetOf};
 ghost use Rattle.directory.specs.Answers.{checked, saidChecked, saidOffset};
+use crate::Checked;
 use crate::Offset;
 use refusal::Refusal;
 use tile::TileId;
-
-// The least id that may follow.
-pub(crate) enum Checked {
-    Next(u64),
-    Refused(Refusal),
-}
 
 pub(crate) fn wide(x: u32) -> u64
     ensures { λ r. ⌜ r ≡ x ⌝ }
@@ -18,8 +13,8 @@ pub(crate) fn wide(x: u32) -> u64
     x as u64
 }
 
-// An entry against the least id that may come.
-pub(crate) fn check_entry(lo: u64, id: u64, run: u32, length: u32) -> Checked
+// An entry against the least id that may come. Ids are plain numbers here: that one is a tile's is what is checked.
+pub fn check_entry(lo: u64, id: u64, run: u32, length: u32) -> Checked
     ensures { λ r. ⌜ saidChecked r ≡ checked lo id run length ⌝ }
 {
     if length == 0 {

@@ -12,6 +12,7 @@ mod stores;
 mod sweep;
 mod walk;
 
+pub use entries::check_entry;
 pub use reading::read;
 pub use search::find_tile_id;
 pub use sweep::find;
@@ -29,6 +30,12 @@ pub struct DirEntry {
     pub run_length: u32,
     pub length: u32,
     pub offset: Offset,
+}
+
+// What a check of one entry finds: the least id that may follow.
+pub enum Checked {
+    Next(u64),
+    Refused(Refusal),
 }
 
 // What reading into stores finds: how many entries, and how many bytes they took.

@@ -6,7 +6,7 @@ ghost use lib.ListN.{length, replicate};
 ghost use Rattle.directory.specs.Search.{stored};
 ghost use Rattle.directory.specs.Answers.{saidChecked};
 ghost use Rattle.directory.specs.Stores.{checkedAll};
-use crate::entries::Checked;
+use crate::Checked;
 use crate::entries::check_entry;
 
 // No directory has more.

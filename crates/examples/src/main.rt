@@ -1,11 +1,13 @@
 // The worked examples of the format, run. Each line names an input and what the core says of it; what must be printed
 // stands in the file stdout, written by hand from the format's rules.
+mod building;
 mod directories;
 mod headers;
 mod ids;
 mod lookups;
 mod print;
 mod varints;
+mod writing;
 
 fn main() {
     varints::run();
@@ -13,4 +15,6 @@ fn main() {
     headers::run();
     directories::run();
     lookups::run();
+    writing::run();
+    building::run();
 }

@@ -2,12 +2,10 @@
 use Prim.Native.Nat.{ℕ, _≤_, _<_}
 use mathlib.Core.Path.{_≡_, refl, ap, sym, _∙_}
 use mathlib.Core.List.{List, [], _∷_}
-use native.Mathlib.Omega.{arith}
 use lib.ListN.{length, replicate}
 use lib.Seq.{sets}
 use borrow.Author.Tests.{le-leb, lt-leb}
 use Rattle.refusal.specs.Out.{Out, ok, bad}
-use Rattle.refusal.proofs.OutLaws.{ok-is}
 use Rattle.varint.specs.Varint.{read}
 use Rattle.directory.specs.Entries.{Entry}
 use Rattle.directory.specs.Columns.{columns}
@@ -16,6 +14,7 @@ use Rattle.directory.specs.Answers.{counted, saidRead}
 use Rattle.directory.specs.Stores.{ReadInto, reading}
 use Rattle.directory.specs.declared.DirectoryRead.{DirectoryRead}
 use Rattle.pmtiles.specs.Exports.{DirectoryTold, within}
+use Rattle.pmtiles.proofs.Told.{made-bad, made-ok}
 
 -- no bytes are no directory
 pub no-directory : (ids runs lens offs : List ℕ) → reading [] ids runs lens offs ≡ bad 8
@@ -24,14 +23,9 @@ no-directory ids runs lens offs = refl
 
 -- what was counted was decoded
 counted-ok : (D : Out (List Entry × ℕ)) (n u : ℕ) → ok (n, u) ≡ counted D → (es : List Entry) × (D ≡ ok (es, u)) × (length es ≡ n)
-counted-ok (ok a) n u e =
-    let p : _≡_ {A = ℕ × ℕ} (n, u) (length (a .0), a .1) = ok-is e in
-    (a .0, ap {B = Out (List Entry × ℕ)} (λ k. ok (a .0, k)) (sym (ap (λ (x : ℕ × ℕ). x .1) p)), sym (ap (λ (x : ℕ × ℕ). x .0) p))
-counted-ok (bad k) n u e = let z : _≡_ {A = ℕ} 0 1 = cc in absurd (omega arith)
-
-counted-bad : (D : Out (List Entry × ℕ)) (n : ℕ) → bad n ≡ counted D → D ≡ bad n
-counted-bad (ok a) n e = let z : _≡_ {A = ℕ} 0 1 = cc in absurd (omega arith)
-counted-bad (bad k) n e = let z : n ≡ k = cc in rw z
+counted-ok D n u e =
+    let m = made-ok D (λ (es, u). (length es, u)) (n, u) e in
+    (m .0 .0, m .1 ∙ ap {B = Out (List Entry × ℕ)} (λ k. ok (m .0 .0, k)) (sym (ap (λ (x : ℕ × ℕ). x .1) (m .2))), sym (ap (λ (x : ℕ × ℕ). x .0) (m .2)))
 
 module _ (D : Out (List Entry × ℕ)) {ids ids′ runs runs′ lens lens′ offs offs′ : List ℕ} (out : List ℕ) where
   pub short-told : length out < 2 → ids′ ≡ replicate (length ids) 0 → runs′ ≡ replicate (length runs) 0 → lens′ ≡ replicate (length lens) 0
@@ -56,7 +50,7 @@ module _ (D : Out (List Entry × ℕ)) {ids ids′ runs runs′ lens lens′ off
 
     pub refused-told : (n : ℕ) → saidRead r ≡ bad n → DirectoryTold (within 2 out D) n ids ids′ runs runs′ lens lens′ offs offs′ out out
     refused-told n s =
-        let w = counted-bad D n (sym s ∙ e .answer) in
+        let w = made-bad D (λ (es, u). (length es, u)) n (sym s ∙ e .answer) in
         rw (le-leb 2 (length out) room)
         (record {
           says = rw w;

@@ -10,6 +10,8 @@ use Rattle.refusal.specs.Out.{Out, ok, bad, _>>=_, afterwards, need}
 use Rattle.directory.specs.Entries.{Entry}
 use Rattle.directory.specs.Answers.{kept}
 use Rattle.directory.specs.Search.{Hit, absent, leaf, tile}
+use Rattle.writer.specs.Build.{addressed, build}
+use Rattle.writer.specs.Answers.{laid}
 
 -- 0 for a value, else the refusal's number
 abbrev pub status : {A : Type 0} → Out A → ℕ
@@ -68,3 +70,16 @@ pub record DirectoryTold (D : Out (List Entry × ℕ)) (answer : ℕ) (ids ids�
   pub lens-kept : lens′ ≡ kept D (λ e. e .len) lens
   pub offs-kept : offs′ ≡ kept D (λ e. e .off) offs
   pub fills : out′ ≡ filled D (λ (es, u). length es ∷ u ∷ []) out
+
+-- ---- directories made from stores: the answer, and each buffer before it and after it
+
+pub record WriteTold (x : Out (List ℕ)) (answer : ℕ) (bytes bytes′ out out′ : List ℕ) : Type 0 where
+  pub says : answer ≡ status x
+  pub written : bytes′ ≡ afterwards x bytes (λ b. laid b bytes)
+  pub fills : out′ ≡ filled x (λ b. length b ∷ []) out
+
+pub record BuildTold (x : Out (List Entry)) (answer : ℕ) (root root′ leaves leaves′ out out′ : List ℕ) : Type 0 where
+  pub says : answer ≡ status x
+  pub inRoot : root′ ≡ afterwards x root (λ es. laid (build es .root) root)
+  pub inLeaves : leaves′ ≡ afterwards x leaves (λ es. laid (build es .leaves) leaves)
+  pub fills : out′ ≡ filled x (λ es. length (build es .root) ∷ length (build es .leaves) ∷ length es ∷ addressed es ∷ []) out

@@ -96,8 +96,8 @@ impl PmTilesWriter {
         let root = state.build_directories(&NoCompression)?;
         let mut bytes = vec![];
         root.write_compressed_to(&mut bytes, &NoCompression)?;
-        state.out.flush()?;
-        Ok((bytes, state.out.get_ref().get_ref().get_ref().clone()))
+        let leaves = state.out.into_inner().into_inner().map_err(|e| e.into_error())?;
+        Ok((bytes, leaves.into_inner()))
     }
 
     /// The real `create` and `finalize` over given data and entries, with `add_tile` (hashing) left out.

@@ -13,8 +13,8 @@ impl<D> Counter<D> {
     pub fn writer_bytes(&self) -> usize {
         self.written
     }
-    pub fn get_ref(&self) -> &D {
-        &self.inner
+    pub fn into_inner(self) -> D {
+        self.inner
     }
 }
 impl<D: Write> Write for Counter<D> {
