@@ -1,12 +1,13 @@
 //! Ids both ways, against tile.rs over the stand-in for fast_hilbert, which goes bit by bit.
-use crate::{Random, compare, core, mixed};
+use crate::{compare, core, mixed};
+use linked::Random;
 use pmtiles::{TileCoord, TileId};
 
 const COUNT: usize = 1_000_000;
 
 pub fn run() {
     for (name, lowest, zooms) in [("zooms 0 to 31", 0, 32), ("zoom 14", 14, 1)] {
-        let mut random = Random::new();
+        let mut random = Random::new(1);
         let coords: Vec<(u8, u32, u32)> = (0..COUNT)
             .map(|_| {
                 let z = (lowest + random.below(zooms)) as u8;

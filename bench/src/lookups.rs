@@ -1,14 +1,15 @@
 //! A search in one directory, and lookups in archives of one and of two directories, against the Rust's decode and search:
 //! `Directory::try_from` and `find_tile_id`, and for an archive `Header::try_from_bytes` before them. The Rust checks no
 //! entry; the core checks every one.
-use crate::{Random, compare, core, mixed};
+use crate::{compare, core, mixed};
 use bytes::Bytes;
+use linked::Random;
 use pmtiles::{Directory, Header, PmTilesWriter, Row, TileId, entry, row, write_directory};
 
 /// Ids from 0 on. Short: every number but the lengths is one byte. Mixed: runs, gaps and lengths of up to three bytes,
 /// and one offset in five anywhere.
 pub fn rows(n: usize, short: bool) -> Vec<Row> {
-    let mut random = Random::new();
+    let mut random = Random::new(1);
     let (mut id, mut offset, mut rows) = (0, 0, Vec::with_capacity(n));
     for _ in 0..n {
         let run = if short { 1 } else { 1 + random.below(300) as u32 };
@@ -24,7 +25,7 @@ pub fn rows(n: usize, short: bool) -> Vec<Row> {
 }
 
 fn targets(rows: &[Row], n: usize) -> Vec<u64> {
-    let mut random = Random::new();
+    let mut random = Random::new(1);
     let end = rows.last().unwrap().0 + 10;
     (0..n).map(|_| random.below(end)).collect()
 }

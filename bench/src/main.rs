@@ -5,29 +5,10 @@ mod core;
 mod directories;
 mod ids;
 mod lookups;
+mod publishing;
 
 use std::hint::black_box;
 use std::time::Instant;
-
-/// xorshift64: the same numbers in every run.
-pub struct Random(u64);
-
-impl Random {
-    pub fn new() -> Self {
-        Self(88172645463325252)
-    }
-
-    pub fn next(&mut self) -> u64 {
-        self.0 ^= self.0 << 13;
-        self.0 ^= self.0 >> 7;
-        self.0 ^= self.0 << 17;
-        self.0
-    }
-
-    pub fn below(&mut self, n: u64) -> u64 {
-        self.next() % n
-    }
-}
 
 /// One number more in a sum that sees the order.
 pub fn mixed(sum: u64, x: u64) -> u64 {
@@ -60,11 +41,12 @@ pub fn compare(name: &str, n: usize, mut ours: impl FnMut() -> u64, mut rust: im
 fn main() {
     let words: Vec<String> = std::env::args().skip(1).collect();
     println!("{:<44} {:>12} {:>12} {:>8}", "ns for one", "core", "Rust", "ratio");
-    let parts: [(&str, fn()); 4] = [
+    let parts: [(&str, fn()); 5] = [
         ("ids", ids::run),
         ("directories", directories::run),
         ("lookups", lookups::run),
         ("building", building::run),
+        ("publishing", publishing::run),
     ];
     for (name, run) in parts {
         if words.is_empty() || words.iter().any(|w| name.contains(w.as_str())) {

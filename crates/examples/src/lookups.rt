@@ -56,7 +56,7 @@ fn archive() -> [u8; 153] {
     out
 }
 
-fn answer(a: LookupAnswer) {
+pub(crate) fn answer(a: LookupAnswer) {
     match a {
         LookupAnswer::Found(l) => {
             text(b" at ");

@@ -6,6 +6,7 @@ mod headers;
 mod ids;
 mod lookups;
 mod print;
+mod publishing;
 mod varints;
 mod writing;
 
@@ -17,4 +18,5 @@ fn main() {
     lookups::run();
     writing::run();
     building::run();
+    publishing::run();
 }

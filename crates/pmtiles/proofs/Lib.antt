@@ -1,3 +1,5 @@
 pub mod Told
 pub mod Stores
 pub mod Made
+pub mod HeaderSlots
+pub mod PublishSlots

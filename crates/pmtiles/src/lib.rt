@@ -2,7 +2,9 @@
 // or found, 255 for absent, else a refusal's number, and puts its values into lent slots.
 mod builds;
 mod directories;
+mod headers;
 mod ids;
 mod lookups;
+mod publishes;
 mod slots;
 mod writes;

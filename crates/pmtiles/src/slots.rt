@@ -29,3 +29,10 @@ pub(crate) fn put_four(out: &mut [u64], at: usize, a: u64, b: u64, c: u64, d: u6
     put_two(out, at, a, b);
     put_two(out, at + 2, c, d);
 }
+
+pub(crate) fn put_bytes(out: &mut [u64], at: usize, a: u8, b: u8, c: u8)
+    requires { ⌜ at + 3 ≤ length (now out) ⌝ }
+    ensures { λ _. ⌜ now (out .exit) ≡ sets (now (out .entry)) at (a ∷ b ∷ c ∷ []) ⌝ }
+{
+    put_three(out, at, a as u64, b as u64, c as u64);
+}

@@ -1,0 +1,7 @@
+pub mod Demand
+pub mod Calls
+pub mod Places
+pub mod Only
+pub mod Admitted
+pub mod Runs
+pub mod Stores
