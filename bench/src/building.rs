@@ -1,7 +1,7 @@
 //! Root and leaves built from sorted entries: the core into two lent buffers of just the size they need, which are not
 //! cleared in between, the Rust into vectors of its own. The core checks every entry, the Rust none.
 use crate::lookups::rows;
-use crate::{ROUNDS, compare, core, mixed};
+use crate::{ROUNDS, Series, core, mixed};
 use pmtiles::{DirEntry, PmTilesWriter, entry};
 
 /// Bytes of both sides, for counts about which the rule turns: 4,063 and 4,064 short entries are the last that make a root
@@ -22,8 +22,9 @@ fn same() {
 
 pub fn run() {
     same();
-    for n in [1_000_000, 16_000_000] {
-        for (kind, short) in [("short", true), ("mixed", false)] {
+    for (kind, short) in [("short", true), ("mixed", false)] {
+        let mut series = Series::default();
+        for n in [1_000_000, 16_000_000] {
             let rows = rows(n, short);
             let stores = core::Stores::from_rows(&rows);
             let data = rows.iter().map(|r| r.3 + u64::from(r.2)).max().unwrap();
@@ -32,9 +33,10 @@ pub fn run() {
             // the Rust consumes its entries, so each round has a copy that is made beforehand
             let mut copies = vec![entries; ROUNDS];
             let mut built = (vec![], vec![]);
-            compare(
+            series.compare(
                 &format!("build, {n} {kind} entries"),
                 1,
+                n,
                 || {
                     let [root, leaves, ..] = core::build(&stores, data, &mut root, &mut leaves);
                     mixed(root, leaves)

@@ -1,19 +1,21 @@
 //! Directories decoded: the core into four lent stores, which are not cleared in between, the Rust into a Vec of its own.
 //! The Rust checks no entry; the core checks every one.
 use crate::lookups::rows;
-use crate::{compare, core, mixed};
+use crate::{Series, core, mixed};
 use bytes::Bytes;
 use pmtiles::{Directory, write_directory};
 
 pub fn run() {
-    for (n, repeats) in [(10, 100_000), (4096, 300), (1_000_000, 2)] {
-        for (kind, short) in [("short", true), ("mixed", false)] {
+    for (kind, short) in [("short", true), ("mixed", false)] {
+        let mut series = Series::default();
+        for (n, repeats) in [(10, 100_000), (4096, 300), (1_000_000, 2)] {
             let rows = rows(n, short);
             let bytes = Bytes::from(write_directory(rows.clone()).unwrap());
             let mut stores = core::Stores::new(n);
-            compare(
+            series.compare(
                 &format!("read, {n} {kind} entries"),
                 repeats,
+                n,
                 || {
                     (0..repeats).fold(0, |s, _| {
                         mixed(s, core::directory_read(std::hint::black_box(&bytes), &mut stores))

@@ -17,8 +17,8 @@ pub fn mixed(sum: u64, x: u64) -> u64 {
 
 pub const ROUNDS: usize = 9;
 
-/// Times `n` units of work on both sides. What each returns is a sum over its results, and must agree.
-pub fn compare(name: &str, n: usize, mut ours: impl FnMut() -> u64, mut rust: impl FnMut() -> u64) {
+/// Times `n` units of work on both sides: nanoseconds for one. What each returns is a sum over its results, and must agree.
+fn measured(name: &str, n: usize, mut ours: impl FnMut() -> u64, mut rust: impl FnMut() -> u64) -> [f64; 2] {
     let mut best = [f64::MAX; 2];
     for _ in 0..ROUNDS {
         let start = Instant::now();
@@ -29,18 +29,40 @@ pub fn compare(name: &str, n: usize, mut ours: impl FnMut() -> u64, mut rust: im
         best[1] = best[1].min(start.elapsed().as_secs_f64());
         assert_eq!(a, b, "{name}: the two sides disagree");
     }
-    let each = best.map(|seconds| seconds * 1e9 / n as f64);
-    println!(
-        "{name:<44} {:>12.2} {:>12.2} {:>8.2}",
-        each[0],
-        each[1],
-        each[1] / each[0]
-    );
+    best.map(|seconds| seconds * 1e9 / n as f64)
+}
+
+fn row(name: &str, each: [f64; 2], growth: &str) {
+    let ratio = each[1] / each[0];
+    println!("{name:<44} {:>14.2} {:>14.2} {ratio:>6.2} {growth}", each[0], each[1]);
+}
+
+pub fn compare(name: &str, n: usize, ours: impl FnMut() -> u64, rust: impl FnMut() -> u64) {
+    row(name, measured(name, n, ours, rust), "");
+}
+
+/// The same work at one size after the other. What one element costs, against the size before, is told for both sides.
+#[derive(Default)]
+pub struct Series(Option<[f64; 2]>);
+
+impl Series {
+    pub fn compare(&mut self, name: &str, n: usize, size: usize, ours: impl FnMut() -> u64, rust: impl FnMut() -> u64) {
+        let each = measured(name, n, ours, rust);
+        let element = each.map(|ns| ns / size as f64);
+        let growth = match self.0.replace(element) {
+            Some(before) => format!("{:>6.2} {:>6.2}", element[0] / before[0], element[1] / before[1]),
+            None => String::new(),
+        };
+        row(name, each, &growth);
+    }
 }
 
 fn main() {
     let words: Vec<String> = std::env::args().skip(1).collect();
-    println!("{:<44} {:>12} {:>12} {:>8}", "ns for one", "core", "Rust", "ratio");
+    println!(
+        "{:<44} {:>14} {:>14} {:>6} {:>13}",
+        "ns for one", "core", "Rust", "ratio", "growth"
+    );
     let parts: [(&str, fn()); 5] = [
         ("ids", ids::run),
         ("directories", directories::run),

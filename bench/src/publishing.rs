@@ -1,11 +1,13 @@
 //! Publication of an archive in one call, and in calls of a mebibyte each, against memset and memcpy of the same bytes. The
 //! destination is not cleared in between.
-use crate::compare;
+use crate::Series;
 use linked::{Random, publish};
 
 const MIB: usize = 1 << 20;
 
 pub fn run() {
+    let calls = [("in one call", u64::MAX), ("1 MiB in a call", MIB as u64)];
+    let mut series: [Series; 2] = Default::default();
     for mib in [1, 16, 256] {
         let mut random = Random::new(1);
         let tiles: Vec<u8> = (0..mib * MIB / 8).flat_map(|_| random.number().to_le_bytes()).collect();
@@ -14,10 +16,11 @@ pub fn run() {
         let mut other = dest.clone();
         let mut header = [0; 127];
         let mut position = [0];
-        for (name, budget) in [("in one call", u64::MAX), ("1 MiB in a call", MIB as u64)] {
-            compare(
+        for ((name, budget), series) in calls.into_iter().zip(&mut series) {
+            series.compare(
                 &format!("publish {mib} MiB, {name}"),
                 1,
+                dest.len(),
                 || {
                     let mut at = 0;
                     loop {

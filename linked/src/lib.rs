@@ -1,5 +1,5 @@
-//! The proved library's functions, for what compares it with the Rust and what times both. Each answers a status: 0 for
-//! done or found, 255 for absent, else a refusal's number.
+//! The proved library's functions, for the host, for what compares it with the Rust and what times both. Each answers a
+//! status: 0 for done or found, 255 for absent, else a refusal's number.
 mod random;
 
 pub use random::Random;
@@ -35,6 +35,13 @@ impl Stores {
             lengths: rows.iter().map(|r| r.2).collect(),
             offsets: rows.iter().map(|r| r.3).collect(),
         }
+    }
+
+    pub fn push(&mut self, (id, run, length, offset): Row) {
+        self.ids.push(id);
+        self.runs.push(run);
+        self.lengths.push(length);
+        self.offsets.push(offset);
     }
 
     pub fn row(&self, i: usize) -> Row {

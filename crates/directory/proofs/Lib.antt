@@ -1,5 +1,4 @@
 pub mod Checks
-pub mod ByEntry
 pub mod Covers
 pub mod Offsets
 pub mod Column
@@ -9,9 +8,4 @@ pub mod Slots
 pub mod Places
 pub mod Kept
 pub mod Last
-pub mod Past
-pub mod Rows
-pub mod Walks
-pub mod Sweeps
-pub mod Agree
 pub mod Only

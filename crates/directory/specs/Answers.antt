@@ -13,8 +13,8 @@ use Rattle.directory.specs.declared.Found.{Found}
 use Rattle.directory.specs.declared.Found.the-variants as f
 use Rattle.directory.specs.declared.Checked.{Checked}
 use Rattle.directory.specs.declared.Checked.the-variants as ch
-use Rattle.directory.specs.declared.entries.OffsetAnswer.{OffsetAnswer}
-use Rattle.directory.specs.declared.entries.OffsetAnswer.the-variants as oa
+use Rattle.directory.specs.declared.OffsetAnswer.{OffsetAnswer}
+use Rattle.directory.specs.declared.OffsetAnswer.the-variants as oa
 use Rattle.directory.specs.declared.columns.Column.{Column}
 use Rattle.directory.specs.declared.columns.Column.the-variants as co
 

@@ -5,4 +5,3 @@ pub mod Encode
 pub mod Search
 pub mod Answers
 pub mod Stores
-pub mod Walk

@@ -8,7 +8,7 @@ ghost use Rattle.directory.specs.Columns.{columnAt, idStep, offsetStep, 
 ghost use Rattle.directory.specs.Answers.{saidColumn};
 ghost use Rattle.directory.specs.Stores.{columnAfter};
 use crate::Offset;
-use crate::entries::OffsetAnswer;
+use crate::OffsetAnswer;
 use crate::entries::offset_of;
 use refusal::Refusal;
 use varint::Cursor;

@@ -4,6 +4,7 @@ ghost use Rattle.directory.specs.Columns.{endOf, offsetOf};
 ghost use Rattle.directory.specs.Answers.{checked, saidChecked, saidOffset};
 use crate::Checked;
 use crate::Offset;
+use crate::OffsetAnswer;
 use refusal::Refusal;
 use tile::TileId;
 
@@ -36,13 +37,8 @@ pub fn check_entry(lo: u64, id: u64, run: u32, length: u32) -> Checked
     Checked::Next(end)
 }
 
-pub(crate) enum OffsetAnswer {
-    At(Offset),
-    Refused(Refusal),
-}
-
 // Code 0 is where the entry before ends; any other is the offset plus 1.
-pub(crate) fn offset_of(first: bool, offset: Offset, length: u32, code: u64) -> OffsetAnswer
+pub fn offset_of(first: bool, offset: Offset, length: u32, code: u64) -> OffsetAnswer
     ensures { λ r. ⌜ saidOffset r ≡ offsetOf (endOf first (offset .0) length) code ⌝ }
 {
     if 0 < code {

@@ -9,17 +9,14 @@ mod entries;
 mod reading;
 mod search;
 mod stores;
-mod sweep;
-mod walk;
 
 pub use entries::check_entry;
+pub use entries::offset_of;
 pub use reading::read;
 pub use search::find_tile_id;
-pub use sweep::find;
-pub use walk::Columns;
-pub use walk::Next;
-pub use walk::Opened;
-pub use walk::Row;
+
+// No directory has more.
+pub const MAX_ENTRIES: usize = 16777216;
 
 // A place in the tile data, or in the section of leaves.
 pub struct Offset(pub u64);
@@ -30,6 +27,12 @@ pub struct DirEntry {
     pub run_length: u32,
     pub length: u32,
     pub offset: Offset,
+}
+
+// What an offset's code stands for.
+pub enum OffsetAnswer {
+    At(Offset),
+    Refused(Refusal),
 }
 
 // What a check of one entry finds: the least id that may follow.

@@ -8,9 +8,9 @@ ghost use Rattle.directory.specs.Stores.{Between, answering};
 use crate::Checked;
 use crate::DirEntry;
 use crate::Found;
+use crate::MAX_ENTRIES;
 use crate::Offset;
 use crate::entries::wide;
-use crate::stores::MAX_ENTRIES;
 use crate::stores::check_entries;
 use crate::stores::least_of;
 use refusal::Refusal;
@@ -36,7 +36,7 @@ fn count_up_to(n: usize, ids: &[u64], target: u64) -> usize
 }
 
 // An entry, as it answers a target that its id is not above.
-pub(crate) fn answer(id: u64, run: u32, length: u32, offset: Offset, target: u64) -> Found
+fn answer(id: u64, run: u32, length: u32, offset: Offset, target: u64) -> Found
     requires { ⌜ id ≤ target ⌝ }
     ensures { λ r. ⌜ saidFound r ≡ answering id run length (offset .0) target ⌝ }
 {

@@ -9,9 +9,6 @@ ghost use Rattle.directory.specs.Stores.{checkedAll};
 use crate::Checked;
 use crate::entries::check_entry;
 
-// No directory has more.
-pub(crate) const MAX_ENTRIES: usize = 16777216;
-
 fn least(a: usize, b: usize) -> usize
     ensures { λ r. ⌜ r ≡ min a b ⌝ }
 {

@@ -1,12 +1,39 @@
-// What the examples print with.
+// What the examples take their numbers with, and print with.
 use libc::STDOUT_FILENO;
 use refusal::Refusal;
+use varint::Cursor;
+use varint::ReadU32;
+use varint::ReadU64;
+
+// A number of the example's, a varint in ten bytes.
+pub(crate) fn word(p: &[u8], at: usize) -> u64 {
+    match (Cursor { at }).read_u64(p) {
+        ReadU64::Number(n, _next) => n,
+        ReadU64::Refused(_r) => 0,
+    }
+}
+
+pub(crate) fn half(p: &[u8], at: usize) -> u32 {
+    match (Cursor { at }).read_u32(p) {
+        ReadU32::Number(n, _next) => n,
+        ReadU32::Refused(_r) => 0,
+    }
+}
+
+pub(crate) fn small(p: &[u8], at: usize) -> u8 {
+    (word(p, at) % 256) as u8
+}
 
 pub(crate) fn text(s: &[u8]) {
     io::write_all(STDOUT_FILENO, s);
 }
 
+fn space() {
+    text(b" ");
+}
+
 pub(crate) fn number(n: u64) {
+    space();
     io::print_decimal(STDOUT_FILENO, n);
 }
 
@@ -17,8 +44,8 @@ fn steps(n: i32) -> u32 {
 
 pub(crate) fn signed(n: i32) {
     if n < 0 {
-        text(b"-");
-        number(steps(n) as u64 + 1);
+        text(b" -");
+        io::print_decimal(STDOUT_FILENO, steps(n) as u64 + 1);
     } else {
         number(steps(n) as u64);
     }
@@ -26,7 +53,7 @@ pub(crate) fn signed(n: i32) {
 
 // A byte, two digits behind a space.
 fn byte(b: u8) {
-    text(b" ");
+    space();
     io::print_hex(STDOUT_FILENO, b as u64, 2);
 }
 
@@ -38,9 +65,7 @@ pub(crate) fn hex(s: &[u8]) {
     }
 }
 
-// A refusal, and the end of the line.
 pub(crate) fn refused(r: Refusal) {
-    text(b" refused ");
+    text(b" refused");
     number(r.number() as u64);
-    text(b"\n");
 }

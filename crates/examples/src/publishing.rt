@@ -1,9 +1,11 @@
 // A small archive published over an older one, cut at every store: one entry, metadata {}, 5 bytes of tile data.
-use crate::lookups::answer;
 use crate::print::hex;
 use crate::print::number;
 use crate::print::refused;
+use crate::print::small;
 use crate::print::text;
+use crate::print::word;
+use crate::tiles::of_id;
 use header::Header;
 use publisher::Published;
 use publisher::Settings;
@@ -56,13 +58,17 @@ fn stores(tiles: &[u8], dest: &mut [u8], position: u64, budget: u64) -> Publishe
     )
 }
 
+fn older(dest: &mut [u8]) -> Published {
+    stores(b"older", dest, 0, 16523)
+}
+
+fn newer(dest: &mut [u8], position: u64, budget: u64) -> Published {
+    stores(b"newer", dest, position, budget)
+}
+
 fn told(p: Published) {
     match p {
-        Published::Position(n) => {
-            text(b" position ");
-            number(n);
-            text(b"\n");
-        }
+        Published::Position(n) => number(n),
         Published::Refused(r) => refused(r),
     }
 }
@@ -119,19 +125,11 @@ fn same(a: &[u8], b: &[u8]) -> bool {
     true
 }
 
-fn compared(a: &[u8], b: &[u8]) {
-    if same(a, b) {
-        text(b": the same bytes\n");
-    } else {
-        text(b": other bytes\n");
-    }
-}
-
 // All stores but the last, one in a call; after how many of them every tile was refused, up to the first where one was not.
 fn step(dest: &mut [u8]) -> u64 {
     let mut i: u64 = 0;
     while i < LAST {
-        stores(b"newer", dest, i, 1);
+        newer(dest, i, 1);
         if all_refused(dest) {
             i += 1;
         } else {
@@ -141,109 +139,66 @@ fn step(dest: &mut [u8]) -> u64 {
     i
 }
 
-fn seek(name: &[u8], dest: &[u8], id: u64) {
-    text(name);
-    text(b": ");
-    number(id);
-    match TileId::new(id) {
-        IdAnswer::Id(t) => answer(reader::lookup(dest, t)),
-        IdAnswer::Refused(r) => refused(r),
-    }
-}
-
+// Tiles 0 and 1, and the tile data.
 fn contents(dest: &[u8]) {
-    seek(b"published", dest, 0);
-    seek(b"published", dest, 1);
+    of_id(b'l', 0, dest, dest);
+    of_id(b'l', 1, dest, dest);
     if dest.len() == 16391 {
         hex(&dest[16386..16391]);
     }
-    text(b"\n");
-}
-
-fn nothing(dest: &mut [u8], older: &[u8]) {
-    contents(dest);
-    text(b"cut 0");
-    told(stores(b"newer", dest, 0, 0));
-    text(b"cut 0");
-    compared(dest, older);
 }
 
 fn everything(dest: &mut [u8]) {
-    text(b"cuts 1 to 16522: every tile refused 2 in ");
+    text(b"\ncuts 1 to 16522, every tile refused 2 ->");
     number(step(dest));
-    text(b"\nthe last store");
-    told(stores(b"newer", dest, LAST, 1));
+    text(b"\nthe last store ->");
+    told(newer(dest, LAST, 1));
     contents(dest);
 }
 
-fn past(dest: &mut [u8]) {
-    text(b"no store is left");
-    told(stores(b"newer", dest, 16523, 9));
-    text(b"past the last store");
-    told(stores(b"newer", dest, 16524, 0));
+fn in_three(dest: &mut [u8]) {
+    text(b"\nthree calls, and the same bytes ->");
+    told(newer(dest, 0, 16390));
+    told(newer(dest, 16390, 7));
+    told(newer(dest, 16397, 18446744073709551615));
 }
 
-fn at_once(dest: &mut [u8], newer: &[u8]) {
-    text(b"in three calls");
-    told(stores(b"newer", dest, 0, 16390));
-    told(stores(b"newer", dest, 16390, 7));
-    told(stores(b"newer", dest, 16397, 18446744073709551615));
-    text(b"in three calls");
-    compared(dest, newer);
+// `P`: the older archive; the newer over it, one store a call; the newer over the older in three calls.
+pub(crate) fn cut() {
+    let mut dest = [7u8; 16391];
+    told(older(&mut dest));
+    contents(&dest);
+    let mut other = dest;
+    everything(&mut dest);
+    in_three(&mut other);
+    number(same(&dest, &other) as u64);
 }
 
-fn codes(dest: &mut [u8]) {
-    text(b"compression 5");
-    told(publish(settings(5, 7), b"", b"", dest, 0, 1));
-    text(b"type 7");
-    told(publish(settings(4, 7), b"", b"", dest, 0, 1));
+// `p COMPRESSION TYPE POSITION BUDGET ROOT`, the bytes being the root, so long, and the tile data: one call over the older
+// archive; whether the archive is the same bytes after it.
+pub(crate) fn once(p: &[u8], s: &[u8]) {
+    let n = word(p, 40) as usize;
+    if s.len() < n {
+        return;
+    }
+    let mut dest = [7u8; 16391];
+    older(&mut dest);
+    let before = dest;
+    told(publish(
+        settings(small(p, 0), small(p, 10)),
+        &s[0..n],
+        &s[n..],
+        &mut dest,
+        word(p, 20),
+        word(p, 30),
+    ));
+    number(same(&dest, &before) as u64);
 }
 
-fn lengths(dest: &mut [u8]) {
-    text(b"a root of 16258 bytes");
-    told(publish(settings(4, 6), &[0; 16258], b"", dest, 0, 1));
-    text(b"a byte more of data");
-    told(stores(b"newest", dest, 0, 1));
-}
-
-fn over(dest: &mut [u8], older: &[u8]) {
-    nothing(dest, older);
-    everything(dest);
-    past(dest);
-}
-
-fn again(dest: &mut [u8], newer: &[u8]) {
-    at_once(dest, newer);
-    codes(dest);
-    lengths(dest);
-    text(b"after these refusals");
-    compared(dest, newer);
-}
-
-fn total(name: &[u8], root: u64, metadata: u64, tiles: u64, leaves: u64) {
-    text(name);
-    match publisher::total(root, metadata, tiles, leaves) {
-        Totalled::Stores(n) => {
-            text(b": stores ");
-            number(n);
-            text(b"\n");
-        }
+// `T ROOT METADATA TILES LEAVES`: how many stores.
+pub(crate) fn total(p: &[u8]) {
+    match publisher::total(word(p, 0), word(p, 10), word(p, 20), word(p, 30)) {
+        Totalled::Stores(n) => number(n),
         Totalled::Refused(r) => refused(r),
     }
-}
-
-pub(crate) fn run() {
-    total(b"5, 2, 5 and 0 bytes", 5, 2, 5, 0);
-    total(b"as many as fit 64 bits", 5, 18446744073709535092, 7, 0);
-    total(b"one more", 5, 18446744073709535092, 8, 0);
-    total(b"a root of 16257 bytes", 16257, 0, 0, 0);
-    total(b"a root of 16258 bytes", 16258, 0, 0, 0);
-    let mut dest = [7u8; 16391];
-    text(b"older");
-    told(stores(b"older", &mut dest, 0, 16523));
-    let older = dest;
-    over(&mut dest, &older);
-    let newer = dest;
-    let mut other = older;
-    again(&mut other, &newer);
 }

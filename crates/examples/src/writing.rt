@@ -1,151 +1,71 @@
-// Directories written from stores, into buffers that hold 9s.
+// Directories measured, written from stores of two slots, and accepted.
+use crate::print::half;
 use crate::print::hex;
 use crate::print::number;
 use crate::print::refused;
-use crate::print::text;
+use crate::print::word;
+use writer::Accepted;
 use writer::Length;
 
-const LAST: u64 = 18446744073709551615;
+fn told(a: Length) {
+    match a {
+        Length::Bytes(n) => number(n as u64),
+        Length::Refused(r) => refused(r),
+    }
+}
 
-// Two entries at the most; a count of more is short of room.
-fn write(
-    name: &[u8],
+fn into(count: usize, ids: &[u64], runs: &[u32], lengths: &[u32], offsets: &[u64], out: &mut [u8]) {
+    told(writer::encoded_len(count, ids, runs, lengths, offsets));
+    let a = writer::write(count, ids, runs, lengths, offsets, out);
+    told(a);
+    hex(out);
+}
+
+fn first(
     count: usize,
-    ids: [u64; 2],
-    runs: [u32; 2],
-    lengths: [u32; 2],
-    offsets: [u64; 2],
+    n: usize,
+    ids: &[u64],
+    runs: &[u32],
+    lengths: &[u32],
+    offsets: &[u64],
     out: &mut [u8],
 ) {
-    text(b"write ");
-    text(name);
-    match writer::write(count, &ids, &runs, &lengths, &offsets, out) {
-        Length::Bytes(n) => {
-            text(b": bytes ");
-            number(n as u64);
-            text(b"\n");
-        }
-        Length::Refused(r) => refused(r),
-    }
-    hex(out);
-    text(b"\n");
-}
-
-fn measured(name: &[u8], ids: [u64; 2], lengths: [u32; 2]) {
-    text(b"measure ");
-    text(name);
-    match writer::encoded_len(2, &ids, &[1, 1], &lengths, &[0, 5]) {
-        Length::Bytes(n) => {
-            text(b": bytes ");
-            number(n as u64);
-            text(b"\n");
-        }
-        Length::Refused(r) => refused(r),
+    if n <= out.len() {
+        into(count, ids, runs, lengths, offsets, &mut out[0..n]);
     }
 }
 
-pub(crate) fn run() {
-    write(
-        b"two entries",
-        2,
-        [0, 1],
-        [1, 2],
-        [5, 7],
-        [0, 5],
-        &mut [9; 12],
+// `W COUNT ROOM ID ID RUN RUN LENGTH LENGTH OFFSET OFFSET`: how long the directory is; how much is written into so many bytes
+// that hold 9s; the bytes. A count of more than two is short of room.
+pub(crate) fn write(p: &[u8]) {
+    let ids = [word(p, 20), word(p, 30)];
+    let runs = [half(p, 40), half(p, 50)];
+    let lengths = [half(p, 60), half(p, 70)];
+    let offsets = [word(p, 80), word(p, 90)];
+    let mut out = [9u8; 18];
+    first(
+        word(p, 0) as usize,
+        word(p, 10) as usize,
+        &ids,
+        &runs,
+        &lengths,
+        &offsets,
+        &mut out,
     );
-    write(b"none", 0, [0, 1], [1, 2], [5, 7], [0, 5], &mut [9; 2]);
-    write(
-        b"into 8 bytes",
-        2,
-        [0, 1],
-        [1, 2],
-        [5, 7],
-        [0, 5],
-        &mut [9; 8],
-    );
-    write(
-        b"into 9 bytes",
-        2,
-        [0, 1],
-        [1, 2],
-        [5, 7],
-        [0, 5],
-        &mut [9; 9],
-    );
-    write(
-        b"a gap in the data",
-        2,
-        [0, 1],
-        [1, 2],
-        [5, 7],
-        [0, 6],
-        &mut [9; 9],
-    );
-    write(
-        b"a length of 0",
-        2,
-        [0, 1],
-        [1, 2],
-        [5, 0],
-        [0, 5],
-        &mut [9; 3],
-    );
-    write(
-        b"an id too large",
-        2,
-        [0, 6148914691236517205],
-        [1, 1],
-        [5, 7],
-        [0, 5],
-        &mut [9; 3],
-    );
-    write(
-        b"two of one id",
-        2,
-        [1, 1],
-        [1, 1],
-        [5, 7],
-        [0, 5],
-        &mut [9; 3],
-    );
-    write(
-        b"the last offset",
-        2,
-        [0, 1],
-        [1, 1],
-        [5, 7],
-        [LAST, 5],
-        &mut [9; 3],
-    );
-    write(
-        b"the last offset, where the one before ends",
-        2,
-        [0, 1],
-        [1, 1],
-        [5, 7],
-        [LAST - 5, LAST],
-        &mut [9; 18],
-    );
-    write(
-        b"three of two",
-        3,
-        [0, 1],
-        [1, 1],
-        [5, 7],
-        [0, 5],
-        &mut [9; 3],
-    );
-    write(
-        b"16777217 of two",
-        16777217,
-        [0, 1],
-        [1, 1],
-        [5, 7],
-        [0, 5],
-        &mut [9; 3],
-    );
-    measured(b"two entries", [0, 1], [5, 7]);
-    measured(b"a length of 128", [0, 1], [5, 128]);
-    measured(b"a length of 0", [0, 1], [5, 0]);
+}
+
+fn told_counts(a: Accepted) {
+    match a {
+        Accepted::Counts(c) => {
+            number(c.n_tile_entries);
+            number(c.n_addressed_tiles);
+        }
+        Accepted::Refused(r) => refused(r),
+    }
+}
+
+// `a RUN RUN DATA`: the counts of entries and of tiles, for tiles of 5 and 7 bytes and so much data.
+pub(crate) fn accept(p: &[u8]) {
+    let runs = [half(p, 0), half(p, 10)];
+    told_counts(writer::accept(2, &[0, 1], &runs, &[5, 7], &[0, 5], word(p, 20)));
 }

@@ -1,9 +1,6 @@
 pub mod ReadBack
 pub mod Only
 pub mod Examples
-pub mod Nearest
-pub mod Sizes
-pub mod FromBits
 pub mod Twos
 pub mod LittleEndian
 pub mod Stores

@@ -9,13 +9,13 @@ use lib.Dec.{eqb}
 use lib.Ieee.{Float}
 use lib.ListN.{length, length-append}
 use Rattle.refusal.specs.Out.{ok}
+use Rattle.degrees.specs.Degrees.{degreesOf, storedOf}
+use Rattle.degrees.proofs.Sizes.{stored-fits}
 use Rattle.header.specs.Bytes.{byteAt, numberAt, bytesOf, signedOf, bitsOf}
-use Rattle.header.specs.Degrees.{degreesOf, storedOf}
 use Rattle.header.specs.Header.{coordinate, degreeAt, degreesAt, fieldsOf, flag, headerBytes, headerFields, magic, readFields, readHeader, startsWith}
 use Rattle.header.specs.Settled.{Fits, settled, settledDegrees}
 use Rattle.header.specs.declared.Header.{Header}
 use Rattle.header.proofs.LittleEndian.{number-back}
-use Rattle.header.proofs.Sizes.{stored-fits}
 use Rattle.header.proofs.Twos.{bits-lt, signed-bits}
 
 pub header-length : (h : Header) → length (headerBytes h) ≡ 127

@@ -7,8 +7,7 @@ use native.Mathlib.Omega.{arith}
 use borrow.Author.Needs.{sfits-of}
 use borrow.Author.Tests.{le-leb}
 use lib.Dec.{T, ltb}
-use lib.IntN.{ℤ, pos, negsuc, negℤ, natAbs, _-ℤ_, +ℤ-comm, -ℤ-one}
-use lib.Pow.{pow-pos}
+use lib.IntN.{ℤ, pos, negsuc, natAbs, _-ℤ_, +ℤ-comm, -ℤ-one}
 use lib.Signed.{mag, leZ, nonNeg}
 use mir.Syntax.{w32}
 use mir.Val.{Fits, SFits, sel, toZ, ofZ}
@@ -74,8 +73,3 @@ bits-neg (negsuc n) t h =
       less = rw b (omega arith);
       bits = rw b (omega arith);
     }
-
--- ---- -n, for an n up to 2 ^ 31
-pub mag-neg : (n : ℕ) → n ≤ 2 ^ 31 → mag (negℤ (pos n)) < 2 ^ 31
-mag-neg zero h = pow-pos 31
-mag-neg (suc n) h = h

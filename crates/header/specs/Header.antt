@@ -3,11 +3,11 @@ use Prim.Native.Nat.{ℕ}
 use mathlib.Core.Bool.{Bool, true, false, _&&_, cond}
 use mathlib.Core.List.{List, [], _∷_, flatten}
 use lib.Dec.{eqb, leb}
-use lib.Ieee.{Float, binary64, round}
+use lib.Ieee.{Float}
 use lib.ListN.{length, take, drop}
 use Rattle.refusal.specs.Out.{Out, ok, need}
+use Rattle.degrees.specs.Degrees.{decimal, degreesOf, storedOf}
 use Rattle.header.specs.Bytes.{byteAt, numberAt, bytesOf, signedOf, bitsOf}
-use Rattle.header.specs.Degrees.{degreesOf, storedOf}
 use Rattle.header.specs.declared.Degrees.{Degrees}
 use Rattle.header.specs.declared.Header.{Header}
 
@@ -153,10 +153,6 @@ writeHeader h n =
     (ok tt))))
 
 -- ---- a new archive
-
--- what a decimal literal means: the float nearest to n / d, negative where s is true
-abbrev pub decimal : Bool → ℕ → ℕ → Float
-decimal s n d = round binary64 s n d
 
 unfoldable pub defaultDegrees : Degrees
 defaultDegrees =

@@ -1,4 +1,3 @@
-pub mod Degrees
 pub mod Bytes
 pub mod Header
 pub mod Settled

@@ -1,7 +1,7 @@
 -- What is read where a header was written. Assumes nothing.
 use Prim.Native.Nat.{_≤_, _<_, _^_}
 use lib.Ieee.{Float}
-use Rattle.header.specs.Degrees.{degreesOf, storedOf}
+use Rattle.degrees.specs.Degrees.{degreesOf, storedOf}
 use Rattle.header.specs.declared.Header.{Header}
 
 -- known codes, and numbers that fit eight bytes. A byte is stored as it is held, so nothing is asked of the others

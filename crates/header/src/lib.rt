@@ -12,9 +12,6 @@ mod coordinates;
 mod read;
 mod write;
 
-pub use coordinates::degrees_of;
-pub use coordinates::stored_of;
-
 // How many bytes a header has.
 pub const HEADER_SIZE: usize = 127;
 

@@ -41,7 +41,7 @@ fn find_id(bytes: &[u8], id: u64) -> Found
     ensures { λ r. ⌜ saidFound r ≡ findIn (now (bytes .entry)) id ⌝ }
 {
     match TileId::new(id) {
-        IdAnswer::Id(i) => directory::find(bytes, i),
+        IdAnswer::Id(i) => walk::find(bytes, i),
         IdAnswer::Refused(r) => Found::Refused(r),
     }
 }

@@ -29,7 +29,7 @@ fn descend(archive: &[u8], s: Sections, target: TileId) -> LookupAnswer
     let mut left: u8 = 3;
     loop {
         let end = start + size;
-        match directory::find(&archive[start..end], target) {
+        match walk::find(&archive[start..end], target) {
             Found::Absent => {
                 return LookupAnswer::Absent;
             }

@@ -166,7 +166,7 @@ fn find(s: &[u8]) {
         return;
     };
     match TileId::new(n) {
-        IdAnswer::Id(i) => told_found(directory::find(&s[10..], i)),
+        IdAnswer::Id(i) => told_found(walk::find(&s[10..], i)),
         IdAnswer::Refused(r) => refused(r),
     }
 }

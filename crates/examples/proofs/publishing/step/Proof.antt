@@ -7,19 +7,16 @@ use Rattle.examples.proofs.publishing.step.Statement.{statement}
 use Rattle.examples.proofs.publishing.step.Tie as tie
 
 abbrev Inv-loop : tie.InvT-loop
-Inv-loop dest₀ i₀ t3 dest i = (i ≤ 16522) × (length dest ≡ length dest₀)
+Inv-loop dest₀ i₀ dest i = (i ≤ 16522) × (length dest ≡ length dest₀)
 
 abbrev μ-loop : tie.MeasureT-loop
-μ-loop dest₀ i₀ t3 dest i = 16522 - i
+μ-loop dest₀ i₀ dest i = 16522 - i
 
 loop-holds : tie.Need-loop-holds Inv-loop μ-loop
 loop-holds c = search needs
 
-slice-aggregate-stores : tie.Need-slice-aggregate-stores Inv-loop μ-loop
-slice-aggregate-stores c = search needs
-
-stores-requires : tie.Need-stores-requires Inv-loop μ-loop
-stores-requires c κs = search needs
+newer-requires : tie.Need-newer-requires Inv-loop μ-loop
+newer-requires c κs = search needs
 
 all-refused-requires : tie.Need-all-refused-requires Inv-loop μ-loop
 all-refused-requires c κs = search needs
@@ -52,8 +49,7 @@ step-spec =
     Inv-loop
     μ-loop
     loop-holds
-    slice-aggregate-stores
-    stores-requires
+    newer-requires
     all-refused-requires
     add-i
     loop-less

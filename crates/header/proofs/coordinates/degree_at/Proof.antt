@@ -2,8 +2,8 @@
 use mathlib.Core.Path.{ap, _∙_}
 use mir.Syntax.{w32}
 use mir.ValLaws.{toZ-ofZ}
+use Rattle.degrees.specs.Degrees.{degreesOf}
 use Rattle.header.specs.Bytes.{signedOf}
-use Rattle.header.specs.Degrees.{degreesOf}
 use borrow.Author.Needs.{needs}
 use Rattle.header.proofs.coordinates.degree_at.Statement.{statement}
 use Rattle.header.proofs.coordinates.degree_at.Tie as tie

@@ -1,0 +1,4 @@
+pub mod Examples
+pub mod Nearest
+pub mod Sizes
+pub mod FromBits
