@@ -8,9 +8,11 @@ use lib.Seq.{take-append-seam}
 use Rattle.refusal.specs.Out.{Out, ok, bad, _>>=_, afterwards, need}
 use Rattle.refusal.proofs.OutLaws.{bind-ok, need-ok, ok-is}
 use Rattle.directory.specs.Entries.{Entry}
-use Rattle.writer.specs.Answers.{BuiltFrom, building, countsOf, fitted, laid, sizesOf}
-use Rattle.writer.specs.Build.{accepting, build}
-use Rattle.writer.specs.declared.Counts.{Counts}
+use Rattle.acceptance.specs.Accept.{accepting}
+use Rattle.acceptance.specs.Answers.{countsOf}
+use Rattle.acceptance.specs.declared.Counts.{Counts}
+use Rattle.writer.specs.Answers.{BuiltFrom, building, fitted, laid, sizesOf}
+use Rattle.writer.specs.Build.{build}
 use Rattle.writer.specs.declared.Sizes.{Sizes}
 use Rattle.writer.specs.declared.Built.the-variants as bu
 use Rattle.publisher.specs.Answers.{saidPublished}

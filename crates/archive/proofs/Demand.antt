@@ -13,12 +13,12 @@ use Rattle.header.specs.declared.Header.{Header}
 use Rattle.header.proofs.ReadBack.{header-length}
 use Rattle.directory.specs.Entries.{Entry, Valid, after}
 use Rattle.directory.specs.Search.{Covers, search}
-use Rattle.directory.proofs.Covers.{Answered, answered, none-covers, one-covers, search-absent, search-covering}
+use Rattle.search.proofs.Covers.{Answered, answered, none-covers, one-covers, search-absent, search-covering}
 use Rattle.reader.specs.Ranges.{Range, part}
-use Rattle.writer.specs.Accept.{Accepts, Stock}
-use Rattle.writer.specs.Answers.{countsOf}
-use Rattle.writer.specs.Build.{addressed}
-use Rattle.writer.proofs.Accepts.{accepting-sound}
+use Rattle.acceptance.specs.Accept.{Accepts, addressed}
+use Rattle.acceptance.specs.Answers.{countsOf}
+use Rattle.acceptance.proofs.Accepts.{accepting-sound}
+use Rattle.writer.specs.Stock.{Stock}
 use Rattle.writer.proofs.Growth.{root-fits}
 use Rattle.writer.proofs.Stocks.{accepted-stock}
 use Rattle.publisher.specs.Plan.{headerFor, image}

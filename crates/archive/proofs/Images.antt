@@ -12,7 +12,7 @@ use Rattle.header.specs.declared.Header.{Header}
 use Rattle.header.proofs.ReadBack.{header-length, read-written}
 use Rattle.reader.specs.Ranges.{Sections, opened, sectionsOf}
 use Rattle.reader.proofs.Inside.{opened-by, root-inside}
-use Rattle.writer.specs.declared.Counts.{Counts}
+use Rattle.acceptance.specs.declared.Counts.{Counts}
 use Rattle.publisher.specs.Plan.{headerFor, image, leafPlace, zeros}
 use Rattle.publisher.specs.Publish.{total}
 use Rattle.publisher.specs.declared.Settings.{Settings}

@@ -11,12 +11,13 @@ use Rattle.tile.specs.Answers.{maxId}
 use Rattle.directory.specs.Entries.{Entry}
 use Rattle.directory.specs.Decode.{decode}
 use Rattle.directory.specs.Search.{All, Hit, IsTile, absent, findIn, leaf, search, tile}
-use Rattle.directory.proofs.Covers.{Answered, all-at, answered, none-covers, one-covers}
+use Rattle.search.proofs.Covers.{Answered, all-at, answered, none-covers, one-covers}
 use Rattle.reader.specs.Ranges.{Range, Sections, opened, part}
 use Rattle.reader.specs.Lookup.{descend, located, lookup}
 use Rattle.reader.proofs.Descents.{on-absent, on-leaf, on-tile}
 use Rattle.reader.proofs.Lookups.{from-root}
-use Rattle.writer.specs.Accept.{Stock, Taken}
+use Rattle.acceptance.specs.Accept.{Taken}
+use Rattle.writer.specs.Stock.{Stock}
 use Rattle.writer.specs.Build.{build}
 use Rattle.writer.proofs.TwoLevels.{Finds, built-finds, in-leaf, in-root, no-leaf}
 use Rattle.archive.proofs.Placed.{Placed, holds-part, holds-range, holds-whole}

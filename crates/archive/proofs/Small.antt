@@ -12,8 +12,9 @@ use Rattle.header.specs.Header.{defaultDegrees}
 use Rattle.directory.specs.Entries.{entry}
 use Rattle.directory.specs.Encode.{encode}
 use Rattle.reader.specs.Lookup.{lookupCoord}
-use Rattle.writer.specs.Answers.{countsOf}
-use Rattle.writer.specs.Build.{accepting, build}
+use Rattle.acceptance.specs.Accept.{accepting}
+use Rattle.acceptance.specs.Answers.{countsOf}
+use Rattle.writer.specs.Build.{build}
 use Rattle.publisher.proofs.Demand.{length-stores}
 use Rattle.archive.specs.Demand.{Publication, Publishable, Tile, afterStores, allStores, asked, byCoord, idOf, leavesOf, rootOf}
 use Rattle.archive.proofs.Demand.{demand-3}

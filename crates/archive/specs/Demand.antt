@@ -24,9 +24,10 @@ use Rattle.directory.specs.Entries.{Entry}
 use Rattle.directory.specs.Search.{Covers}
 use Rattle.reader.specs.Ranges.{Range, part}
 use Rattle.reader.specs.Lookup.{lookup, lookupCoord}
-use Rattle.writer.specs.Accept.{Typed}
-use Rattle.writer.specs.Answers.{countsOf}
-use Rattle.writer.specs.Build.{accepting, build}
+use Rattle.acceptance.specs.Accept.{accepting}
+use Rattle.acceptance.specs.Answers.{countsOf}
+use Rattle.writer.specs.Stock.{Typed}
+use Rattle.writer.specs.Build.{build}
 use Rattle.publisher.specs.Plan.{stored}
 use Rattle.publisher.specs.Calls.{Parts, calls, storesOf, sum, totalOf}
 use Rattle.publisher.specs.declared.Settings.{Settings}

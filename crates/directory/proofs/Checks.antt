@@ -1,15 +1,18 @@
 -- What the checks by entry decide. Assumes nothing.
 use Prim.Native.Nat.{ℕ, suc, _+_, _≤_, _<_, max}
 use mathlib.Core.Path.{_≡_, refl, ap, sym, _∙_}
-use mathlib.Core.Bool.{true}
+use mathlib.Core.Bool.{Bool, true, false}
 use mathlib.Core.List.{List, [], _∷_}
 use borrow.Author.Tests.{le-leb, le-ltb, leb-true, lt-leb, lt-ltb, ltb-true}
 use native.Mathlib.Omega.{arith}
 use lib.Dec.{leb, ltb}
-use Rattle.refusal.specs.Out.{Out, ok, bad, need}
+use Rattle.refusal.specs.Out.{Out, ok, bad, _>>=_, need}
+use Rattle.refusal.specs.declared.Refusal.{Refusal}
 use Rattle.tile.specs.Answers.{maxId}
 use Rattle.directory.specs.Entries.{Entry, Good, Valid, after, check, checkOne, entry}
-use Rattle.directory.specs.Answers.{checked}
+use Rattle.directory.specs.Answers.{checked, saidChecked}
+use Rattle.directory.specs.declared.Checked.{Checked}
+use Rattle.directory.specs.declared.Checked.the-variants as ch
 use Rattle.refusal.proofs.OutLaws.{need-ok}
 
 pub one-sound : {A : Type 0} (lo : ℕ) (e : Entry) (x : Out A) (y : A) → checkOne lo e x ≡ ok y → Good lo e × (x ≡ ok y)
@@ -62,3 +65,16 @@ module _ (lo id run len : ℕ) where
         pub is-good : (next : ℕ) → lo ≤ id → next ≡ id + max 1 run → checked lo id run len ≡ ok next
         unfolding checked
         is-good next low e = one-good lo (entry id run len 0) _ (record { full = full; low = low; top = top; end = end }) ∙ ap ok (sym e)
+
+-- ---- a further test, once an entry has passed
+
+module _ (x : Checked) (b : Bool) (k : ℕ) {y : Out ℕ} (e : y ≡ saidChecked x >>= λ next. need b k (ok next)) where
+  pub then-refused : {r : Refusal} → x ≡ ch.Refused r → saidChecked x ≡ y
+  then-refused h = sym (e ∙ rw h)
+
+  module _ {next : ℕ} (h : x ≡ ch.Next next) where
+    pub then-passed : true ≡ b → saidChecked x ≡ y
+    then-passed t = sym (e ∙ rw (h, ← t))
+
+    pub then-failed : false ≡ b → bad k ≡ y
+    then-failed t = sym (e ∙ rw (h, ← t))

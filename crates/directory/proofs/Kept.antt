@@ -1,6 +1,6 @@
 -- What the stores hold after a reading. Assumes nothing.
 use Prim.Native.Nat.{ℕ, _+_, _≤_, _<_}
-use mathlib.Core.Path.{_≡_, refl, ap, _∙_}
+use mathlib.Core.Path.{_≡_, refl, ap, sym, _∙_}
 use mathlib.Core.List.{List, _++_, append-nil, map}
 use native.Mathlib.Omega.{arith}
 use borrow.Author.Fill.{fill-more, fill-none}
@@ -10,9 +10,10 @@ use Rattle.refusal.specs.Out.{Out, ok, bad}
 use Rattle.refusal.specs.Number.{numberOf}
 use Rattle.refusal.specs.declared.Refusal.{Refusal}
 use Rattle.directory.specs.Entries.{Entry}
-use Rattle.directory.specs.Search.{shortest}
+use Rattle.directory.specs.Search.{shortest, stored}
 use Rattle.directory.specs.Answers.{kept}
-use Rattle.directory.specs.Stores.{Filling, ReadInto}
+use Rattle.directory.specs.Stores.{Filling, ReadInto, Told}
+use Rattle.directory.specs.declared.DirectoryRead.{DirectoryRead}
 use Rattle.directory.specs.declared.DirectoryRead.the-variants as dr
 use Rattle.directory.proofs.Slots.{fields, stored-length}
 
@@ -44,30 +45,47 @@ module _ {D : Out (List Entry × ℕ)} where
   cleared field old mid new d e z = rw (d, z, e)
 
   module _ (ids ids′ runs runs′ lens lens′ offs offs′ : List ℕ) where
-    pub as-read : (n u : ℕ) → Filling (dr.Entries n u) D ids ids′ runs runs′ lens lens′ offs offs′
+    pub as-read : {r : DirectoryRead} {n u : ℕ} → r ≡ dr.Entries n u → Filling r D ids ids′ runs runs′ lens lens′ offs offs′
         → length ids′ ≡ length ids → length runs′ ≡ length runs → length lens′ ≡ length lens → length offs′ ≡ length offs
-        → ReadInto D (dr.Entries n u) ids ids′ runs runs′ lens lens′ offs offs′
-    as-read n u f a b l o =
+        → ReadInto D r ids ids′ runs runs′ lens lens′ offs offs′
+    as-read {n = n} e g a b l o =
+        let f : Filling (dr.Entries n _) D ids ids′ runs runs′ lens lens′ offs offs′ = rw e at g in
         let h : n ≤ shortest ids′ runs′ lens′ offs′ = omega (arith, f .0) in
-        let e = stored-length n ids′ runs′ lens′ offs′ h in
+        let m = stored-length n ids′ runs′ lens′ offs′ h in
         let s = fields n ids′ runs′ lens′ offs′ h in
-        record {
-          answer = rw (f .1, e);
-          ids-kept = laid (λ e. e .id) ids ids′ (f .1) e (s .ids) (f .2);
-          runs-kept = laid (λ e. e .run) runs runs′ (f .1) e (s .runs) (f .3);
-          lens-kept = laid (λ e. e .len) lens lens′ (f .1) e (s .lens) (f .4);
-          offs-kept = laid (λ e. e .off) offs offs′ (f .1) e (s .offs) (f .5);
-        }
+        rw e
+        (record {
+          answer = rw (f .1, m);
+          ids-kept = laid (λ e. e .id) ids ids′ (f .1) m (s .ids) (f .2);
+          runs-kept = laid (λ e. e .run) runs runs′ (f .1) m (s .runs) (f .3);
+          lens-kept = laid (λ e. e .len) lens lens′ (f .1) m (s .lens) (f .4);
+          offs-kept = laid (λ e. e .off) offs offs′ (f .1) m (s .offs) (f .5);
+        })
 
-    pub as-refused : {ids″ runs″ lens″ offs″ : List ℕ} (r : Refusal) → D ≡ bad (numberOf r)
+    pub as-refused : {ids″ runs″ lens″ offs″ : List ℕ} {r : DirectoryRead} {q : Refusal} → r ≡ dr.Refused q → Filling r D ids ids′ runs runs′ lens lens′ offs offs′
         → length ids′ ≡ length ids → length runs′ ≡ length runs → length lens′ ≡ length lens → length offs′ ≡ length offs
         → ids″ ≡ replicate (length ids′) 0 → runs″ ≡ replicate (length runs′) 0 → lens″ ≡ replicate (length lens′) 0 → offs″ ≡ replicate (length offs′) 0
-        → ReadInto D (dr.Refused r) ids ids″ runs runs″ lens lens″ offs offs″
-    as-refused r d a b l o za zb zl zo =
-        record {
+        → ReadInto D r ids ids″ runs runs″ lens lens″ offs offs″
+    as-refused {q = q} e g a b l o za zb zl zo =
+        let d : D ≡ bad (numberOf q) = rw e at g in
+        rw e
+        (record {
           answer = rw d;
           ids-kept = cleared (λ e. e .id) ids ids′ _ d a za;
           runs-kept = cleared (λ e. e .run) runs runs′ _ d b zb;
           lens-kept = cleared (λ e. e .len) lens lens′ _ d l zl;
           offs-kept = cleared (λ e. e .off) offs offs′ _ d o zo;
-        }
+        })
+
+-- ---- what is told of the entries that stand in the stores
+
+pub filled : (r : DirectoryRead) {n : ℕ} {D E : Out (List Entry × ℕ)} (ids ids′ runs runs′ lens lens′ offs offs′ : List ℕ) → n ≤ shortest ids runs lens offs
+    → Told r n (stored n ids′ runs′ lens′ offs′) E → E ≡ D
+    → drop n ids′ ≡ drop n ids → drop n runs′ ≡ drop n runs → drop n lens′ ≡ drop n lens → drop n offs′ ≡ drop n offs
+    → Filling r D ids ids′ runs runs′ lens lens′ offs offs′
+filled (dr.Entries m u) ids ids′ runs runs′ lens lens′ offs offs′ fits t e a b l o = rw (t .0) (fits, sym e ∙ t .1, a, b, l, o)
+filled (dr.Refused r) ids ids′ runs runs′ lens lens′ offs offs′ fits t e a b l o = sym e ∙ t
+
+pub filled-as : (r : DirectoryRead) {D E : Out (List Entry × ℕ)} → D ≡ E → (ids ids′ runs runs′ lens lens′ offs offs′ : List ℕ)
+    → Filling r E ids ids′ runs runs′ lens lens′ offs offs′ → Filling r D ids ids′ runs runs′ lens lens′ offs offs′
+filled-as r e ids ids′ runs runs′ lens lens′ offs offs′ f = rw e f

@@ -1,5 +1,5 @@
+pub mod Counting
 pub mod Checks
-pub mod Covers
 pub mod Offsets
 pub mod Column
 pub mod Round
@@ -7,5 +7,4 @@ pub mod Turns
 pub mod Slots
 pub mod Places
 pub mod Kept
-pub mod Last
 pub mod Only

@@ -3,14 +3,9 @@ use Prim.Native.Nat.{ℕ}
 use mathlib.Core.Path.{_≡_, refl, ap}
 use Rattle.refusal.specs.Out.{Out, ok, bad}
 use Rattle.refusal.proofs.Numbers.{one-to-one, numbered, refusalOf}
-use Rattle.directory.specs.Entries.{Entry}
-use Rattle.directory.specs.Search.{Hit, absent, leaf, tile}
-use Rattle.directory.specs.Answers.{saidFound, saidRead}
-use Rattle.directory.specs.declared.DirEntry.{DirEntry}
+use Rattle.directory.specs.Answers.{saidRead}
 use Rattle.directory.specs.declared.DirectoryRead.{DirectoryRead}
 use Rattle.directory.specs.declared.DirectoryRead.the-variants as dr
-use Rattle.directory.specs.declared.Found.{Found}
-use Rattle.directory.specs.declared.Found.the-variants as f
 
 abbrev toldRead : Out (ℕ × ℕ) → DirectoryRead
 toldRead (ok (n, u)) = dr.Entries n u
@@ -22,21 +17,3 @@ read-back (dr.Refused r) = ap dr.Refused (numbered r)
 
 pub one-read : (a b : DirectoryRead) → saidRead a ≡ saidRead b → a ≡ b
 one-read = one-to-one saidRead toldRead read-back
-
-abbrev toldEntry : Entry → DirEntry
-toldEntry e = record { «tile_id» = record { 0 = e .id }; «run_length» = e .run; length = e .len; offset = record { 0 = e .off } }
-
-abbrev toldFound : Out Hit → Found
-toldFound (ok (tile e)) = f.Tile (toldEntry e)
-toldFound (ok (leaf e)) = f.Leaf (toldEntry e)
-toldFound (ok absent) = f.Absent
-toldFound (bad n) = f.Refused (refusalOf n)
-
-found-back : (a : Found) → toldFound (saidFound a) ≡ a
-found-back (f.Tile e) = refl
-found-back (f.Leaf e) = refl
-found-back f.Absent = refl
-found-back (f.Refused r) = ap f.Refused (numbered r)
-
-pub one-found : (a b : Found) → saidFound a ≡ saidFound b → a ≡ b
-one-found = one-to-one saidFound toldFound found-back

@@ -11,6 +11,7 @@ use Rattle.refusal.specs.Out.{Out, ok, bad, _>>=_, need}
 use Rattle.refusal.proofs.OutLaws.{bind-assoc, bind-cong, bind-ok, need-bind, ok-is}
 use Rattle.varint.specs.Varint.{Width, narrow, readAt, wide}
 use Rattle.varint.specs.declared.Cursor.{Cursor}
+use Rattle.refusal.specs.Number.{numberOf}
 use Rattle.refusal.specs.declared.Refusal.{Refusal}
 use Rattle.varint.proofs.Reading.{bridge, place-after}
 use Rattle.directory.specs.Entries.{Entry, check, maxCount}
@@ -18,7 +19,7 @@ use Rattle.directory.specs.Columns.{columnAt, columns, entries, idStep, 
 use Rattle.directory.specs.Decode.{decode, ended}
 use Rattle.directory.specs.Search.{stored}
 use Rattle.directory.specs.Answers.{saidColumn}
-use Rattle.directory.specs.Stores.{checkAfter, checkedAll, columnAfter, entriesAt, saidEntries}
+use Rattle.directory.specs.Stores.{checkAfter, checkedAll, columnAfter, entriesAt}
 use Rattle.directory.specs.declared.columns.Column.{Column}
 use Rattle.directory.specs.declared.columns.Column.the-variants as co
 use Rattle.directory.proofs.Column.{column-bridge}
@@ -106,14 +107,14 @@ module _ (n : ℕ) (l : List ℕ) where
 
 -- the checks after the columns, which were read or were refused
 module _ (n : ℕ) (a b l o : List ℕ) {x : Column} where
-  pub passed-on : {r : Refusal} → x ≡ co.Refused r → saidEntries x n a b l o ≡ checkAfter x n a b l o
+  pub passed-on : {r : Refusal} → x ≡ co.Refused r → checkAfter x n a b l o ≡ bad (numberOf r)
   passed-on e = rw e
 
   module _ {c : Cursor} (e : x ≡ co.Done c) where
-    pub not-passed : {r : ℕ} → bad r ≡ checkedAll 0 (stored n a b l o) → bad r ≡ checkAfter x n a b l o
+    pub not-passed : {r : ℕ} → bad r ≡ checkedAll 0 (stored n a b l o) → checkAfter x n a b l o ≡ bad r
     not-passed j = rw (e, check-all, ← j)
 
-    pub all-passed : {next : ℕ} → ok next ≡ checkedAll 0 (stored n a b l o) → ok (stored n a b l o, c .at) ≡ checkAfter x n a b l o
+    pub all-passed : {next : ℕ} → ok next ≡ checkedAll 0 (stored n a b l o) → checkAfter x n a b l o ≡ ok (stored n a b l o, c .at)
     all-passed j = rw (e, check-all, ← j)
 
 -- ---- the directory

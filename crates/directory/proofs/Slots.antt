@@ -12,6 +12,7 @@ use Rattle.directory.specs.Entries.{Entry, check, entry}
 use Rattle.directory.specs.Search.{shortest, stored}
 use Rattle.directory.specs.Answers.{checked}
 use Rattle.directory.specs.Stores.{checkedAll}
+use Rattle.directory.proofs.Counting.{in-each}
 
 -- the numbers of entries, one column each
 pub record Fields (es : List Entry) (a b l o : List ℕ) : Type 0 where
@@ -20,19 +21,23 @@ pub record Fields (es : List Entry) (a b l o : List ℕ) : Type 0 where
   pub lens : map (λ e. e .len) es ≡ l
   pub offs : map (λ e. e .off) es ≡ o
 
-pub fields : (n : ℕ) (a b l o : List ℕ) → n ≤ shortest a b l o → Fields (stored n a b l o) (take n a) (take n b) (take n l) (take n o)
-fields zero a b l o h = record { ids = refl; runs = refl; lens = refl; offs = refl }
-fields (suc n) [] b l o h = absurd (omega arith)
-fields (suc n) (x ∷ a) [] l o h = absurd (omega arith)
-fields (suc n) (x ∷ a) (y ∷ b) [] o h = absurd (omega arith)
-fields (suc n) (x ∷ a) (y ∷ b) (z ∷ l) [] h = absurd (omega arith)
-fields (suc n) (x ∷ a) (y ∷ b) (z ∷ l) (w ∷ o) h =
-    let f = fields n a b l o (omega arith) in
+fields-of : (n : ℕ) (a b l o : List ℕ) → n ≤ length a → n ≤ length b → n ≤ length l → n ≤ length o
+    → Fields (stored n a b l o) (take n a) (take n b) (take n l) (take n o)
+fields-of zero a b l o p q r s = record { ids = refl; runs = refl; lens = refl; offs = refl }
+fields-of (suc n) [] b l o p q r s = absurd (omega arith)
+fields-of (suc n) (x ∷ a) [] l o p q r s = absurd (omega arith)
+fields-of (suc n) (x ∷ a) (y ∷ b) [] o p q r s = absurd (omega arith)
+fields-of (suc n) (x ∷ a) (y ∷ b) (z ∷ l) [] p q r s = absurd (omega arith)
+fields-of (suc n) (x ∷ a) (y ∷ b) (z ∷ l) (w ∷ o) p q r s =
+    let f = fields-of n a b l o (omega arith) (omega arith) (omega arith) (omega arith) in
     record { ids = rw (f .ids); runs = rw (f .runs); lens = rw (f .lens); offs = rw (f .offs) }
+
+pub fields : (n : ℕ) (a b l o : List ℕ) → n ≤ shortest a b l o → Fields (stored n a b l o) (take n a) (take n b) (take n l) (take n o)
+fields n a b l o h = let f = in-each n a b l o h in fields-of n a b l o (f .0) (f .1) (f .2) (f .3)
 
 module _ (n : ℕ) (a b l o : List ℕ) (h : n ≤ shortest a b l o) where
   pub stored-length : length (stored n a b l o) ≡ n
-  stored-length = sym (length-map (stored n a b l o) (λ e. e .id)) ∙ ap length (fields n a b l o h .ids) ∙ length-take-le n a (omega arith)
+  stored-length = sym (length-map (stored n a b l o) (λ e. e .id)) ∙ ap length (fields n a b l o h .ids) ∙ length-take-le n a (in-each n a b l o h .0)
 
   module _ (i : ℕ) (m : i < n) where
     field-at : (f : Entry → ℕ) (xs : List ℕ) → map f (stored n a b l o) ≡ take n xs → f (entry 0 0 0 0) ≡ 0 → f (getD (stored n a b l o) i (entry 0 0 0 0)) ≡ getD xs i 0
@@ -69,8 +74,8 @@ module _ {n : ℕ} {a b l : List ℕ} {i lo : ℕ} (k : Passed n a b l i lo) whe
         → checkedAll 0 (stored n a b l o) ≡ checked lo (getD a i 0) (getD b i 0) (getD l i 0) >>= λ next. checkedAll next (drop (i + 1) (stored n a b l o))
     more o r = rw (k .same o r, slot n a b l o (omega (arith, k .fits)) i m, add-one i)
 
-    pub pass-stop : {q : ℕ} → bad q ≡ checked lo (getD a i 0) (getD b i 0) (getD l i 0) → (o : List ℕ) → n ≤ length o → bad q ≡ checkedAll 0 (stored n a b l o)
-    pass-stop e o r = sym (rw (more o r, ← e))
+    pub pass-stop : {x : Out ℕ} {q : ℕ} → x ≡ bad q → x ≡ checked lo (getD a i 0) (getD b i 0) (getD l i 0) → (o : List ℕ) → n ≤ length o → x ≡ checkedAll 0 (stored n a b l o)
+    pass-stop z e o r = z ∙ sym (rw (more o r, ← e, z))
 
     pub pass-turn : {next : ℕ} → ok next ≡ checked lo (getD a i 0) (getD b i 0) (getD l i 0) → Passed n a b l (i + 1) next
     pass-turn e = record { fits = k .fits; same = λ o r. rw (more o r, ← e) }

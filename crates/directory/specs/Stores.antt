@@ -1,17 +1,16 @@
--- Four stores, into which a directory is read and in which one is searched. Assumes nothing.
-use Prim.Native.Nat.{ℕ, _-_, _≤_, _<_}
+-- Four stores, into which a directory is read. Assumes nothing.
+use Prim.Native.Nat.{ℕ, _≤_}
 use mathlib.Core.Path.{_≡_}
 use mathlib.Core.List.{List, [], _∷_}
 use mathlib.Core.Option.{none, some}
-use lib.ListN.{drop, getD}
-use Rattle.refusal.specs.Out.{Out, ok, bad, _>>=_, need}
+use lib.ListN.{drop}
+use Rattle.refusal.specs.Out.{Out, ok, bad, _>>=_}
 use Rattle.refusal.specs.Number.{numberOf}
 use Rattle.varint.specs.Varint.{Width, wide, narrow}
-use Rattle.tile.specs.Answers.{isId}
-use Rattle.directory.specs.Entries.{Entry, check, entry}
+use Rattle.directory.specs.Entries.{Entry, check}
 use Rattle.directory.specs.Columns.{columnAt, entries, idStep, offsetStep, plainStep}
 use Rattle.directory.specs.Decode.{decode}
-use Rattle.directory.specs.Search.{Hit, hit, shortest, stored}
+use Rattle.directory.specs.Search.{shortest, stored}
 use Rattle.directory.specs.Answers.{checked, counted, kept, saidRead}
 use Rattle.directory.specs.declared.DirectoryRead.{DirectoryRead}
 use Rattle.directory.specs.declared.DirectoryRead.the-variants as dr
@@ -45,12 +44,7 @@ entriesAt n l at =
     columnAt narrow plainStep n tt l p₂ >>= λ (lens, p₃).
     columnAt wide offsetStep n (none, lens) l p₃ >>= λ (offs, p₄). check 0 (entries ids runs lens offs) (ok (entries ids runs lens offs, p₄))
 
--- the entries in the first n slots, and the place after their columns
-abbrev pub saidEntries : Column → ℕ → List ℕ → List ℕ → List ℕ → List ℕ → Out (List Entry × ℕ)
-saidEntries (co.Done c) n ids runs lens offs = ok (stored n ids runs lens offs, c .at)
-saidEntries (co.Refused r) n ids runs lens offs = bad (numberOf r)
-
--- the same, checked if the columns were read
+-- the entries in the first n slots and the place after their columns, checked if the columns were read
 abbrev pub checkAfter : Column → ℕ → List ℕ → List ℕ → List ℕ → List ℕ → Out (List Entry × ℕ)
 checkAfter (co.Done c) n ids runs lens offs = check 0 (stored n ids runs lens offs) (ok (stored n ids runs lens offs, c .at))
 checkAfter (co.Refused r) n ids runs lens offs = bad (numberOf r)
@@ -59,6 +53,11 @@ checkAfter (co.Refused r) n ids runs lens offs = bad (numberOf r)
 abbrev pub checkedAll : ℕ → List Entry → Out ℕ
 checkedAll lo [] = ok lo
 checkedAll lo (e ∷ es) = checked lo (e .id) (e .run) (e .len) >>= λ next. checkedAll next es
+
+-- what is told of the n entries that a reading gives, or of its refusal
+abbrev pub Told : DirectoryRead → ℕ → List Entry → Out (List Entry × ℕ) → Type 0
+Told (dr.Entries m u) n es D = (m ≡ n) × (D ≡ ok (es, u))
+Told (dr.Refused r) n es D = D ≡ bad (numberOf r)
 
 -- a success: the first n slots are the directory, and the others as they were; of a refusal the stores are not yet cleared
 abbrev pub Filling : DirectoryRead → Out (List Entry × ℕ) → (ids ids′ runs runs′ lens lens′ offs offs′ : List ℕ) → Type 0
@@ -70,13 +69,3 @@ Filling (dr.Entries n u) D ids ids′ runs runs′ lens lens′ offs offs′ =
     × (drop n lens′ ≡ drop n lens)
     × (drop n offs′ ≡ drop n offs)
 Filling (dr.Refused r) D ids ids′ runs runs′ lens lens′ offs offs′ = D ≡ bad (numberOf r)
-
--- an entry, as it answers a target that its id is not above
-unfoldable pub answering : ℕ → ℕ → ℕ → ℕ → ℕ → Out Hit
-answering id run len off t = need (isId id) 7 (ok (hit t (some (entry id run len off))))
-
--- of the first n ids, the one before `low` is at most the target, and the one at `high` above it
-pub record Between (n : ℕ) (ids : List ℕ) (t low high : ℕ) : Type 0 where
-  pub ordered : (low ≤ high) × (high ≤ n)
-  pub below : 0 < low → getD ids (low - 1) 0 ≤ t
-  pub above : high < n → t < getD ids high 0

@@ -8,7 +8,8 @@ use crate::OffsetAnswer;
 use refusal::Refusal;
 use tile::TileId;
 
-pub(crate) fn wide(x: u32) -> u64
+// A number of 32 bits as one of 64.
+pub fn wide(x: u32) -> u64
     ensures { λ r. ⌜ r ≡ x ⌝ }
 {
     x as u64

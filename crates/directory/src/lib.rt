@@ -7,13 +7,14 @@ use tile::TileId;
 mod columns;
 mod entries;
 mod reading;
-mod search;
 mod stores;
 
 pub use entries::check_entry;
 pub use entries::offset_of;
+pub use entries::wide;
 pub use reading::read;
-pub use search::find_tile_id;
+pub use stores::check_count;
+pub use stores::check_stores;
 
 // No directory has more.
 pub const MAX_ENTRIES: usize = 16777216;

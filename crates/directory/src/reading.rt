@@ -1,10 +1,9 @@
 // A directory's bytes, read into four stores.
-ghost use mathlib.Core.Path.{_≡_};
 ghost use mathlib.Core.List.{List};
 ghost use Prim.Native.Nat.{ℕ, _≤_};
-ghost use lib.ListN.{drop, length};
-ghost use Rattle.directory.specs.Search.{shortest};
-ghost use Rattle.directory.specs.Stores.{Filling, ReadInto, checkAfter, entriesAt, reading, saidEntries};
+ghost use lib.ListN.{length};
+ghost use Rattle.directory.specs.Search.{shortest, stored};
+ghost use Rattle.directory.specs.Stores.{Filling, ReadInto, Told, checkAfter, entriesAt, reading};
 use crate::Checked;
 use crate::DirectoryRead;
 use crate::MAX_ENTRIES;
@@ -20,19 +19,25 @@ use refusal::Refusal;
 use varint::Cursor;
 use varint::ReadU64;
 
-// The entries that were read, checked.
-fn check_read(end: Column, n: usize, ids: &[u64], runs: &[u32], lengths: &[u32]) -> Column
+// The entries that were read, checked, and what is told of them.
+fn check_read(end: Column, n: usize, ids: &[u64], runs: &[u32], lengths: &[u32]) -> DirectoryRead
     requires { ⌜ (n ≤ length (now ids)) × (n ≤ length (now runs)) × (n ≤ length (now lengths)) ⌝ }
     ensures { λ r. ⌜ ((offs : List ℕ) → n ≤ length offs
-        → saidEntries r n (now (ids .entry)) (now (runs .entry)) (now (lengths .entry)) offs
-        ≡ checkAfter end n (now (ids .entry)) (now (runs .entry)) (now (lengths .entry)) offs) ⌝ }
+        → Told r n (stored n (now (ids .entry)) (now (runs .entry)) (now (lengths .entry)) offs)
+        (checkAfter end n (now (ids .entry)) (now (runs .entry)) (now (lengths .entry)) offs)) ⌝ }
 {
-    let Column::Done(c) = end else {
-        return end;
-    };
-    match check_entries(n, ids, runs, lengths) {
-        Checked::Next(_) => Column::Done(c),
-        Checked::Refused(r) => Column::Refused(r),
+    match end {
+        Column::Done(c) => match check_entries(n, ids, runs, lengths) {
+            Checked::Next(_) => {
+                return DirectoryRead::Entries(n, c.at);
+            }
+            Checked::Refused(r) => {
+                return DirectoryRead::Refused(r);
+            }
+        },
+        Column::Refused(r) => {
+            return DirectoryRead::Refused(r);
+        }
     }
 }
 
@@ -45,19 +50,17 @@ fn read_entries(
     runs: &mut [u32],
     lengths: &mut [u32],
     offsets: &mut [u64],
-) -> Column
+) -> DirectoryRead
     requires { ⌜ n ≤ shortest (now ids) (now runs) (now lengths) (now offsets) ⌝ }
-    ensures { λ r. ⌜ (saidEntries r n (now (ids .exit)) (now (runs .exit)) (now (lengths .exit)) (now (offsets .exit)) ≡ entriesAt n (now (bytes .entry)) (from .at))
-        × (drop n (now (ids .exit)) ≡ drop n (now (ids .entry)))
-        × (drop n (now (runs .exit)) ≡ drop n (now (runs .entry)))
-        × (drop n (now (lengths .exit)) ≡ drop n (now (lengths .entry)))
-        × (drop n (now (offsets .exit)) ≡ drop n (now (offsets .entry))) ⌝ }
+    ensures { λ r. ⌜ Filling r (entriesAt n (now (bytes .entry)) (from .at))
+        (now (ids .entry)) (now (ids .exit)) (now (runs .entry)) (now (runs .exit))
+        (now (lengths .entry)) (now (lengths .exit)) (now (offsets .entry)) (now (offsets .exit)) ⌝ }
 {
-    let ids_end = read_ids(bytes, from, n, ids);
-    let runs_end = read_plain(bytes, ids_end, n, runs);
-    let lengths_end = read_plain(bytes, runs_end, n, lengths);
-    let offsets_end = read_offsets(bytes, lengths_end, n, lengths, offsets);
-    check_read(offsets_end, n, ids, runs, lengths)
+    let mut end = read_ids(bytes, from, n, ids);
+    end = read_plain(bytes, end, n, runs);
+    end = read_plain(bytes, end, n, lengths);
+    end = read_offsets(bytes, end, n, lengths, offsets);
+    check_read(end, n, ids, runs, lengths)
 }
 
 // The stores are filled, or a refusal is told; then they are still to be cleared.
@@ -83,14 +86,7 @@ fn fill(
             if least_of(ids.len(), runs.len(), lengths.len(), offsets.len()) < n {
                 return DirectoryRead::Refused(Refusal::RoomTooShort);
             }
-            match read_entries(bytes, from, n, ids, runs, lengths, offsets) {
-                Column::Done(c) => {
-                    return DirectoryRead::Entries(n, c.at);
-                }
-                Column::Refused(r) => {
-                    return DirectoryRead::Refused(r);
-                }
-            }
+            return read_entries(bytes, from, n, ids, runs, lengths, offsets);
         }
         ReadU64::Refused(r) => {
             return DirectoryRead::Refused(r);
@@ -111,14 +107,13 @@ pub fn read(
         (now (ids .entry)) (now (ids .exit)) (now (runs .entry)) (now (runs .exit))
         (now (lengths .entry)) (now (lengths .exit)) (now (offsets .entry)) (now (offsets .exit)) ⌝ }
 {
-    match fill(bytes, ids, runs, lengths, offsets) {
-        DirectoryRead::Entries(n, used) => DirectoryRead::Entries(n, used),
-        DirectoryRead::Refused(r) => {
-            zero_u64(ids);
-            zero_u32(runs);
-            zero_u32(lengths);
-            zero_u64(offsets);
-            DirectoryRead::Refused(r)
-        }
-    }
+    let filled = fill(bytes, ids, runs, lengths, offsets);
+    let DirectoryRead::Refused(_) = filled else {
+        return filled;
+    };
+    zero_u64(ids);
+    zero_u32(runs);
+    zero_u32(lengths);
+    zero_u64(offsets);
+    filled
 }

@@ -6,6 +6,7 @@ use crate::print::small;
 use crate::print::text;
 use crate::print::word;
 use crate::tiles::of_id;
+use acceptance::Counts;
 use header::Header;
 use publisher::Published;
 use publisher::Settings;
@@ -15,7 +16,6 @@ use tile::CoordAnswer;
 use tile::IdAnswer;
 use tile::TileCoord;
 use tile::TileId;
-use writer::Counts;
 
 // Where the last store begins: it is header byte 0.
 const LAST: u64 = 16522;

@@ -92,7 +92,7 @@ fn in_stores(count: usize, last: u64, t: TileId) -> Found {
     let runs = [2u32, 0, 1];
     let lengths = [5u32, 6, 7];
     let offsets = [0u64, 0, 6];
-    directory::find_tile_id(count, &ids, &runs, &lengths, &offsets, t)
+    search::find_tile_id(count, &ids, &runs, &lengths, &offsets, t)
 }
 
 fn asked(kind: u8, t: TileId, p: &[u8], s: &[u8]) {

@@ -4,7 +4,7 @@ use crate::print::hex;
 use crate::print::number;
 use crate::print::refused;
 use crate::print::word;
-use writer::Accepted;
+use acceptance::Accepted;
 use writer::Length;
 
 fn told(a: Length) {
@@ -67,5 +67,5 @@ fn told_counts(a: Accepted) {
 // `a RUN RUN DATA`: the counts of entries and of tiles, for tiles of 5 and 7 bytes and so much data.
 pub(crate) fn accept(p: &[u8]) {
     let runs = [half(p, 0), half(p, 10)];
-    told_counts(writer::accept(2, &[0, 1], &runs, &[5, 7], &[0, 5], word(p, 20)));
+    told_counts(acceptance::accept(2, &[0, 1], &runs, &[5, 7], &[0, 5], word(p, 20)));
 }

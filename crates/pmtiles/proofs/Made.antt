@@ -7,10 +7,11 @@ use lib.Seq.{sets}
 use borrow.Author.Tests.{le-leb, lt-leb}
 use Rattle.refusal.specs.Out.{Out, ok, bad, afterwards}
 use Rattle.directory.specs.Entries.{Entry}
+use Rattle.acceptance.specs.Answers.{countsOf}
+use Rattle.acceptance.specs.declared.Counts.{Counts}
 use Rattle.writer.specs.Build.{build}
-use Rattle.writer.specs.Answers.{BuiltFrom, countsOf, laid, lengthOf, saidBuilt, sizesOf}
+use Rattle.writer.specs.Answers.{BuiltFrom, laid, lengthOf, saidBuilt, sizesOf}
 use Rattle.writer.specs.declared.Built.{Built}
-use Rattle.writer.specs.declared.Counts.{Counts}
 use Rattle.writer.specs.declared.Sizes.{Sizes}
 use Rattle.pmtiles.specs.Exports.{BuildTold, WriteTold, within}
 use Rattle.pmtiles.proofs.Told.{made-bad, made-ok}

@@ -10,7 +10,7 @@ use lib.ListN.{length}
 use lib.Seq.{sets}
 use borrow.Author.Tests.{le-leb, leb-false, leb-true, lt-leb}
 use Rattle.refusal.specs.Out.{Out, ok, bad, afterwards, need}
-use Rattle.writer.specs.declared.Counts.{Counts}
+use Rattle.acceptance.specs.declared.Counts.{Counts}
 use Rattle.publisher.specs.Plan.{storedFrom, stores}
 use Rattle.publisher.specs.Publish.{publishing}
 use Rattle.publisher.specs.declared.Settings.{Settings}

@@ -10,7 +10,8 @@ use Rattle.refusal.specs.Out.{Out, ok, bad, _>>=_, afterwards, need}
 use Rattle.directory.specs.Entries.{Entry}
 use Rattle.directory.specs.Answers.{kept}
 use Rattle.directory.specs.Search.{Hit, absent, leaf, tile}
-use Rattle.writer.specs.Build.{addressed, build}
+use Rattle.acceptance.specs.Accept.{addressed}
+use Rattle.writer.specs.Build.{build}
 use Rattle.writer.specs.Answers.{laid}
 
 -- 0 for a value, else the refusal's number

@@ -7,7 +7,7 @@ use lib.Dec.{leb}
 use lib.Ieee.{Float}
 use lib.ListN.{length}
 use Rattle.refusal.specs.Out.{Out, afterwards, need}
-use Rattle.writer.specs.declared.Counts.{Counts}
+use Rattle.acceptance.specs.declared.Counts.{Counts}
 use Rattle.publisher.specs.Publish.{publishing}
 use Rattle.publisher.specs.declared.Settings.{Settings}
 use Rattle.pmtiles.specs.Exports.{filled, status, within}

@@ -2,7 +2,7 @@
 ghost use mathlib.Core.Path.{_≡_};
 ghost use mathlib.Core.List.{_∷_, []};
 ghost use lib.ListN.{length};
-ghost use Rattle.writer.specs.Build.{accepting};
+ghost use Rattle.acceptance.specs.Accept.{accepting};
 ghost use Rattle.writer.specs.Answers.{building, sizesIn};
 ghost use Rattle.pmtiles.specs.Exports.{Answered, BuildTold, within};
 use crate::slots::put_four;

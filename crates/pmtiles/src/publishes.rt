@@ -10,10 +10,10 @@ ghost use Rattle.pmtiles.specs.Headers.{byteOf};
 ghost use Rattle.pmtiles.specs.Publishes.{PublishTold, countsGiven, publishingGiven, settingsIn, settingsWith, zoomsFit};
 use crate::headers::byte_of;
 use crate::headers::degrees_in;
+use acceptance::Counts;
 use publisher::Published;
 use publisher::Settings;
 use publisher::Totalled;
-use writer::Counts;
 
 // out: how many stores there are for a root, metadata, data and leaves of so many bytes.
 #[no_mangle]

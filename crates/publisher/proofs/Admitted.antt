@@ -11,7 +11,7 @@ use Rattle.publisher.specs.Plan.{headerFor}
 use Rattle.publisher.specs.Calls.{Accepted}
 use Rattle.publisher.specs.Publish.{total, totalling, advancing, publishing}
 use Rattle.publisher.specs.declared.Settings.{Settings}
-use Rattle.writer.specs.declared.Counts.{Counts}
+use Rattle.acceptance.specs.declared.Counts.{Counts}
 
 -- ---- the total
 

@@ -10,7 +10,7 @@ use lib.ListN.{length, getD, take, drop, set, length-append, length-drop, length
 use lib.Seq.{sets-eq, take-at, drop-at, take-length, drop-append-add, length-take-le, drop-append-le, drop-drop, getD-set-other, getD-set-same, take-append-le}
 use Rattle.header.specs.Header.{headerBytes}
 use Rattle.header.proofs.ReadBack.{header-length}
-use Rattle.writer.specs.declared.Counts.{Counts}
+use Rattle.acceptance.specs.declared.Counts.{Counts}
 use Rattle.publisher.specs.declared.Settings.{Settings}
 use Rattle.publisher.specs.Plan.{Store, headerFor, upward, stored, zeros, behind, front, plan, image, stores}
 use Rattle.publisher.specs.Publish.{total}

@@ -4,7 +4,7 @@ use mathlib.Core.List.{List, [], _∷_}
 use lib.ListN.{length}
 use Rattle.refusal.specs.Out.{Out, ok, _>>=_}
 use Rattle.header.specs.Header.{maxCompression, maxType}
-use Rattle.writer.specs.declared.Counts.{Counts}
+use Rattle.acceptance.specs.declared.Counts.{Counts}
 use Rattle.publisher.specs.declared.Settings.{Settings}
 use Rattle.publisher.specs.Plan.{Store, storedFrom, stores}
 use Rattle.publisher.specs.Publish.{publishing, total}

@@ -7,7 +7,7 @@ use lib.Dec.{eqb, ltb}
 use lib.ListN.{length, getD, take, drop, set, replicate}
 use Rattle.header.specs.Header.{headerBytes}
 use Rattle.header.specs.declared.Header.{Header}
-use Rattle.writer.specs.declared.Counts.{Counts}
+use Rattle.acceptance.specs.declared.Counts.{Counts}
 use Rattle.publisher.specs.declared.Settings.{Settings}
 
 -- ---- the header

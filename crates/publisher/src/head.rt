@@ -5,10 +5,10 @@ ghost use Rattle.refusal.specs.Out.{ok};
 ghost use Rattle.header.specs.Header.{headerBytes, writeHeader};
 ghost use Rattle.publisher.specs.Plan.{headerFor};
 use crate::Settings;
+use acceptance::Counts;
 use header::HEADER_SIZE;
 use header::Header;
 use header::MAX_INITIAL_BYTES;
-use writer::Counts;
 
 // The header of an archive whose root, metadata, data and leaves have so many bytes. The contents are not counted.
 pub(crate) fn heading(

@@ -13,11 +13,11 @@ use crate::head::bytes_of;
 use crate::head::heading;
 use crate::sections::fill_behind;
 use crate::sections::fill_front;
+use acceptance::Counts;
 use header::MAX_COMPRESSION;
 use header::MAX_INITIAL_BYTES;
 use header::MAX_TILE_TYPE;
 use refusal::Refusal;
-use writer::Counts;
 
 // The stores of an archive that holds nothing: 16384 zeros, and the header over them.
 const FEWEST: u64 = 16511;

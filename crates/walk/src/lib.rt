@@ -1,5 +1,4 @@
 // A directory's bytes walked row by row, and searched so, with no store.
-mod answers;
 mod cursors;
 mod sweep;
 

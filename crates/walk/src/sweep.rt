@@ -6,7 +6,6 @@ ghost use Rattle.tile.specs.Answers.{maxId};
 ghost use Rattle.directory.specs.Answers.{saidFound};
 ghost use Rattle.directory.specs.Search.{findIn, hit};
 ghost use Rattle.walk.specs.Walk.{keptIf, rowEntry, sweepIn};
-use crate::answers::answer;
 use crate::cursors::Columns;
 use crate::cursors::Next;
 use crate::cursors::Opened;
@@ -16,6 +15,7 @@ use directory::Found;
 use directory::Offset;
 use directory::check_entry;
 use refusal::Refusal;
+use search::answer;
 use tile::TileId;
 
 // What the last row at or below the target, if there is one, makes of it.

@@ -5,7 +5,7 @@ use mathlib.Core.List.{List, [], _∷_, _++_}
 use native.Mathlib.Omega.{arith}
 use lib.ListN.{drop, length, length-drop, length-take, take, take-append-drop}
 use Rattle.directory.specs.Entries.{Entry}
-use Rattle.writer.specs.Accept.{Stock}
+use Rattle.writer.specs.Stock.{Stock}
 use Rattle.writer.specs.Build.{chunks}
 use Rattle.writer.proofs.Stocks.{stock-drop, stock-take}
 

@@ -1,7 +1,6 @@
 -- The checks of entries that are to be written, one entry at a time. Assumes nothing.
 use Prim.Native.Nat.{ℕ, _+_, _^_, _≤_, _<_}
 use mathlib.Core.Path.{_≡_, refl, ap, sym, _∙_}
-use mathlib.Core.Bool.{Bool, true, false}
 use mathlib.Core.List.{List, [], _∷_}
 use mathlib.Core.Option.{Option, none, some}
 use native.Mathlib.Omega.{arith}
@@ -11,29 +10,20 @@ use Rattle.refusal.specs.Out.{Out, ok, bad, _>>=_, need}
 use Rattle.refusal.proofs.OutLaws.{need-bind, need-ok, ok-is}
 use Rattle.directory.specs.Entries.{Entry, Good, Valid, after, checkOne, entry}
 use Rattle.directory.specs.Encode.{Fits, Fitting, codeOf}
-use Rattle.directory.specs.Answers.{checked}
+use Rattle.directory.specs.Answers.{checked, saidChecked}
+use Rattle.directory.specs.declared.Checked.{Checked}
 use Rattle.directory.specs.Search.{All}
 use Rattle.directory.proofs.Checks.{one-sound}
-use Rattle.writer.specs.Accept.{Narrow}
+use Rattle.writer.specs.Stock.{Narrow}
 use Rattle.writer.specs.Write.{checkAll, checkCoded}
 use Rattle.writer.specs.Cells.{codedOne}
 
 -- ---- one entry: the checks of reading, then its code
 
-module _ (lo : ℕ) (p : Option ℕ) (id run len off : ℕ) where
-  coded-is : codedOne lo p (entry id run len off) ≡ checked lo id run len >>= λ next. need (ltb (codeOf p off) (2 ^ 64)) 11 (ok next)
-  unfolding codedOne checked
-  coded-is = sym (simp need-bind)
-
-  pub coded-refused : (k : ℕ) → bad k ≡ checked lo id run len → bad k ≡ codedOne lo p (entry id run len off)
-  coded-refused k h = sym (coded-is ∙ rw (← h))
-
-  module _ (next : ℕ) (h : ok next ≡ checked lo id run len) where
-    pub coded-passed : true ≡ ltb (codeOf p off) (2 ^ 64) → ok next ≡ codedOne lo p (entry id run len off)
-    coded-passed t = sym (coded-is ∙ rw (← h, ← t))
-
-    pub coded-large : false ≡ ltb (codeOf p off) (2 ^ 64) → bad 11 ≡ codedOne lo p (entry id run len off)
-    coded-large t = sym (coded-is ∙ rw (← h, ← t))
+pub coded-is : (lo : ℕ) (p : Option ℕ) (id run len off : ℕ) (x : Checked) → saidChecked x ≡ checked lo id run len
+    → codedOne lo p (entry id run len off) ≡ saidChecked x >>= λ next. need (ltb (codeOf p off) (2 ^ 64)) 11 (ok next)
+unfolding codedOne checked
+coded-is lo p id run len off x h = rw h (sym (simp need-bind))
 
 one-coded : {A : Type 0} (lo : ℕ) (p : Option ℕ) (e : Entry) (x : Out A) (y : A) → checkCoded lo p e x ≡ ok y
     → Good lo e × (codeOf p (e .off) < 2 ^ 64) × (x ≡ ok y)

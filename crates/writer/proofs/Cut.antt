@@ -10,7 +10,7 @@ use Rattle.directory.specs.Entries.{Entry}
 use Rattle.directory.specs.Columns.{entries}
 use Rattle.directory.specs.Encode.{encode}
 use Rattle.directory.proofs.Round.{ids}
-use Rattle.writer.specs.Accept.{Stock}
+use Rattle.writer.specs.Stock.{Stock}
 use Rattle.writer.specs.Build.{chunks, firstId, leavesOf}
 use Rattle.writer.specs.Cells.{Rising, part}
 use Rattle.writer.specs.Cuts.{cuts, every, firstIds, leafEnd}

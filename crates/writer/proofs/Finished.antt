@@ -1,9 +1,10 @@
 -- The outcomes of building. Assumes nothing.
 use Prim.Native.Nat.{ℕ, suc, _≤_, _<_, _^_}
 use mathlib.Core.Path.{_≡_, refl, ap, ap₂, subst, sym, _∙_}
+use mathlib.Core.Bool.{Bool, true, false, _&&_}
 use mathlib.Core.List.{List, []}
 use native.Mathlib.Omega.{arith}
-use borrow.Author.Tests.{le-leb, lt-leb}
+use borrow.Author.Tests.{leb-true}
 use lib.Dec.{leb}
 use lib.ListN.{length}
 use lib.Seq.{sets}
@@ -15,17 +16,19 @@ use Rattle.directory.specs.Entries.{Entry}
 use Rattle.directory.specs.Columns.{entries}
 use Rattle.directory.specs.Encode.{encode}
 use Rattle.directory.specs.Search.{stored}
-use Rattle.writer.specs.Accept.{Stock, Typed}
-use Rattle.writer.specs.Answers.{BuiltFrom, building, countsIn, countsOf, fitted, laid, saidBuilt, sizesIn, sizesOf}
-use Rattle.writer.specs.Build.{Directories, accepting, build, leavesOf, pointers, withLeaves}
+use Rattle.acceptance.specs.Accept.{accepting}
+use Rattle.acceptance.specs.Answers.{countsIn, countsOf}
+use Rattle.acceptance.specs.declared.Counts.{Counts}
+use Rattle.acceptance.proofs.Accepts.{accepting-sound}
+use Rattle.writer.specs.Stock.{Stock, Typed}
+use Rattle.writer.specs.Answers.{BuiltFrom, building, fitted, sizesIn, sizesOf}
+use Rattle.writer.specs.Build.{build, leavesOf, pointers}
 use Rattle.writer.specs.Cells.{part}
 use Rattle.writer.specs.Cuts.{Planned, cuts, shaped}
 use Rattle.writer.specs.declared.Built.{Built}
 use Rattle.writer.specs.declared.Built.the-variants as bu
-use Rattle.writer.specs.declared.Counts.{Counts}
 use Rattle.writer.specs.declared.Sizes.{Sizes}
 use Rattle.writer.specs.declared.leaves.Plan.{Plan}
-use Rattle.writer.proofs.Accepts.{accepting-sound}
 use Rattle.writer.proofs.Cut.{cuts-all}
 use Rattle.writer.proofs.Parts.{entries-length, stored-part}
 use Rattle.writer.proofs.Plans.{shaped-leaves}
@@ -51,25 +54,29 @@ module _ (x : Out (List Entry)) (counts : List Entry → Counts) (root leaves : 
 
 -- ---- entries that were accepted
 
+need-both : {A : Type 0} (p q : Bool) (k : ℕ) (x : Out A) → need (p && q) k x ≡ need p k (need q k x)
+need-both true q k x = refl
+need-both false q k x = refl
+
 module _ (es : List Entry) (rootRoom leafRoom : ℕ) where
-  pub root-short : rootRoom < length (build es .root) → fitted es rootRoom leafRoom ≡ bad 15
-  unfolding fitted
-  root-short h = rw (lt-leb (length (build es .root)) rootRoom h)
-
-  module _ (h : length (build es .root) ≤ rootRoom) where
-    pub leaves-short : leafRoom < length (build es .leaves) → fitted es rootRoom leafRoom ≡ bad 15
+  -- one test of both rooms, by the sizes that were planned
+  module _ (s : Sizes) (z : s ≡ sizesOf (build es)) (b : Bool) (h : b ≡ leb (s .root) rootRoom && leb (s .leaves) leafRoom) where
+    tested : fitted es rootRoom leafRoom ≡ need b 15 (ok es)
     unfolding fitted
-    leaves-short k = rw (le-leb (length (build es .root)) rootRoom h, lt-leb (length (build es .leaves)) leafRoom k)
+    tested = rw (h, z) (sym (need-both (leb (length (build es .root)) rootRoom) (leb (length (build es .leaves)) leafRoom) 15 (ok es)))
 
-    pub both-fit : length (build es .leaves) ≤ leafRoom → fitted es rootRoom leafRoom ≡ ok es
-    unfolding fitted
-    both-fit k = rw (le-leb (length (build es .root)) rootRoom h, le-leb (length (build es .leaves)) leafRoom k)
+    pub no-room : b ≡ false → fitted es rootRoom leafRoom ≡ bad 15
+    no-room e = tested ∙ (rw e)
 
-  fitted-is : (fs : List Entry) → fitted es rootRoom leafRoom ≡ ok fs → es ≡ fs
+    pub both-fit : b ≡ true → fitted es rootRoom leafRoom ≡ ok es
+    both-fit e = tested ∙ (rw e)
+
+  pub fitted-sound : (fs : List Entry) → fitted es rootRoom leafRoom ≡ ok fs → (length (build es .root) ≤ rootRoom) × (length (build es .leaves) ≤ leafRoom) × (es ≡ fs)
   unfolding fitted
-  fitted-is fs p =
+  fitted-sound fs p =
       let a = need-ok (leb (length (build es .root)) rootRoom) 15 (need (leb (length (build es .leaves)) leafRoom) 15 (ok es)) fs p in
-      ok-is (need-ok (leb (length (build es .leaves)) leafRoom) 15 (ok es) fs (a .1) .1)
+      let b = need-ok (leb (length (build es .leaves)) leafRoom) 15 (ok es) fs (a .1) in
+      (leb-true _ _ (a .0), leb-true _ _ (b .0), ok-is (b .1))
 
   -- the counts that were handed on are those of the entries
   recount : (counts : Counts) → countsOf es ≡ counts → (r : Built) (root leaves root′ leaves′ : List ℕ)
@@ -79,7 +86,7 @@ module _ (es : List Entry) (rootRoom leafRoom : ℕ) where
         answer =
             f .answer
             ∙ bind-cong (fitted es rootRoom leafRoom) _ _
-            (λ fs p. ap {B = Out (Sizes × Counts)} (λ c. ok (sizesOf (build fs), c)) (sym e ∙ ap countsOf (fitted-is fs p)));
+            (λ fs p. ap {B = Out (Sizes × Counts)} (λ c. ok (sizesOf (build fs), c)) (sym e ∙ ap countsOf (fitted-sound fs p .2)));
         inRoot = f .inRoot;
         inLeaves = f .inLeaves;
       }
@@ -87,12 +94,6 @@ module _ (es : List Entry) (rootRoom leafRoom : ℕ) where
 -- ---- what is planned
 
 module _ (n : ℕ) (es : List Entry) (m : n ≤ length es) (p : Plan) (q : Planned n es p) where
-  pub root-size : p .sizes .root ≡ length (build (part 0 n es) .root)
-  root-size = ap (λ (s : Sizes). s .root) (q .sizes)
-
-  pub leaves-size : p .sizes .leaves ≡ length (build (part 0 n es) .leaves)
-  leaves-size = ap (λ (s : Sizes). s .leaves) (q .sizes)
-
   pub built-flat : p .leaf ≡ 0 → build (part 0 n es) ≡ record { root = encode (part 0 n es); leaves = [] }
   built-flat z = q .dirs ∙ ap (λ (k : ℕ). shaped k (part 0 n es)) z
 

@@ -1,14 +1,11 @@
 pub mod Puts
 pub mod Parts
 pub mod Lengths
-pub mod Counting
 pub mod Codes
 pub mod Coded
 pub mod Typed
 pub mod Written
 pub mod ReadBack
-pub mod Tiles
-pub mod Accepts
 pub mod Stocks
 pub mod Chunks
 pub mod Pointers

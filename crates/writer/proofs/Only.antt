@@ -5,13 +5,11 @@ use mathlib.Core.List.{List}
 use Rattle.refusal.specs.Out.{Out, ok, bad}
 use Rattle.refusal.proofs.Numbers.{numbered, one-to-one, refusalOf}
 use Rattle.directory.specs.Entries.{Entry}
-use Rattle.writer.specs.Answers.{BuiltFrom, saidAccepted, saidBuilt, saidLength, saidSized}
-use Rattle.writer.specs.declared.Counts.{Counts}
+use Rattle.acceptance.specs.declared.Counts.{Counts}
+use Rattle.writer.specs.Answers.{BuiltFrom, saidBuilt, saidLength, saidSized}
 use Rattle.writer.specs.declared.Sizes.{Sizes}
 use Rattle.writer.specs.declared.Length.{Length}
 use Rattle.writer.specs.declared.Length.the-variants as le
-use Rattle.writer.specs.declared.Accepted.{Accepted}
-use Rattle.writer.specs.declared.Accepted.the-variants as ac
 use Rattle.writer.specs.declared.Sized.{Sized}
 use Rattle.writer.specs.declared.Sized.the-variants as si
 use Rattle.writer.specs.declared.Built.{Built}
@@ -20,10 +18,6 @@ use Rattle.writer.specs.declared.Built.the-variants as bu
 toldLength : Out ℕ → Length
 toldLength (ok n) = le.Bytes n
 toldLength (bad k) = le.Refused (refusalOf k)
-
-toldAccepted : Out Counts → Accepted
-toldAccepted (ok c) = ac.Counts c
-toldAccepted (bad k) = ac.Refused (refusalOf k)
 
 toldSized : Out Sizes → Sized
 toldSized (ok s) = si.Sizes s
@@ -38,11 +32,6 @@ unfolding toldLength
 undoneLength (le.Bytes n) = refl
 undoneLength (le.Refused r) = ap le.Refused (numbered r)
 
-undoneAccepted : (a : Accepted) → toldAccepted (saidAccepted a) ≡ a
-unfolding toldAccepted
-undoneAccepted (ac.Counts c) = refl
-undoneAccepted (ac.Refused r) = ap ac.Refused (numbered r)
-
 undoneSized : (a : Sized) → toldSized (saidSized a) ≡ a
 unfolding toldSized
 undoneSized (si.Sizes s) = refl
@@ -55,9 +44,6 @@ undoneBuilt (bu.Refused r) = ap bu.Refused (numbered r)
 
 pub one-length : (a b : Length) → saidLength a ≡ saidLength b → a ≡ b
 one-length = one-to-one saidLength toldLength undoneLength
-
-pub one-accepted : (a b : Accepted) → saidAccepted a ≡ saidAccepted b → a ≡ b
-one-accepted = one-to-one saidAccepted toldAccepted undoneAccepted
 
 pub one-sized : (a b : Sized) → saidSized a ≡ saidSized b → a ≡ b
 one-sized = one-to-one saidSized toldSized undoneSized

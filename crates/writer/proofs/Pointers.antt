@@ -16,7 +16,7 @@ use Rattle.directory.specs.Columns.{roomy}
 use Rattle.directory.specs.Decode.{decode}
 use Rattle.directory.specs.Encode.{Fitting, codeOf, codes, encode, putAll}
 use Rattle.directory.proofs.Round.{decode-encode, ids, lens, runs}
-use Rattle.writer.specs.Accept.{Stock}
+use Rattle.writer.specs.Stock.{Stock}
 use Rattle.writer.specs.Build.{firstId, leavesOf, pointers}
 use Rattle.writer.specs.Cells.{Rising, deltas}
 use Rattle.writer.specs.Cuts.{firstIds, leafCodes, leafLengths}

@@ -14,10 +14,10 @@ use Rattle.directory.specs.Search.{shortest, stored}
 use Rattle.directory.specs.Stores.{ReadInto, reading}
 use Rattle.directory.specs.declared.DirectoryRead.{DirectoryRead}
 use Rattle.directory.proofs.Slots.{fields, stored-length}
-use Rattle.writer.specs.Accept.{Typed}
+use Rattle.writer.specs.Stock.{Typed}
 use Rattle.writer.specs.Answers.{laid, writing}
 use Rattle.writer.specs.Write.{encoding}
-use Rattle.writer.proofs.Counting.{counting-sound}
+use Rattle.directory.proofs.Counting.{counting-sound}
 use Rattle.writer.proofs.Written.{encoding-sound, written-read}
 
 -- four stores whose first n slots were read from where they had been written

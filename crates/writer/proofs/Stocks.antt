@@ -14,10 +14,10 @@ use Rattle.directory.specs.Decode.{decode}
 use Rattle.directory.specs.Encode.{Fitting, encode}
 use Rattle.directory.specs.Search.{All}
 use Rattle.directory.proofs.Round.{decode-encode}
-use Rattle.writer.specs.Accept.{Accepts, Narrow, Stock, Taken, Typed}
-use Rattle.writer.specs.Build.{accepting}
+use Rattle.acceptance.specs.Accept.{Taken, accepting}
+use Rattle.acceptance.proofs.Accepts.{accepting-sound}
+use Rattle.writer.specs.Stock.{Narrow, Stock, Typed}
 use Rattle.writer.specs.Cells.{Ready, part}
-use Rattle.writer.proofs.Accepts.{accepting-sound}
 use Rattle.writer.proofs.Codes.{code-le}
 use Rattle.writer.proofs.Parts.{part-length, stored-part}
 use Rattle.writer.proofs.Typed.{all-drop, all-narrow, all-part, all-take}

@@ -14,8 +14,8 @@ use Rattle.directory.specs.Entries.{Entry, Valid, after, entry}
 use Rattle.directory.specs.Decode.{decode}
 use Rattle.directory.specs.Encode.{encode}
 use Rattle.directory.specs.Search.{absent, hit, lastAt, later, leaf, search}
-use Rattle.directory.proofs.Covers.{none-below}
-use Rattle.writer.specs.Accept.{Stock}
+use Rattle.search.proofs.Covers.{none-below}
+use Rattle.writer.specs.Stock.{Stock}
 use Rattle.writer.specs.Build.{Directories, build, chunks, leavesOf, pointers, withLeaves}
 use Rattle.writer.specs.Cuts.{shaped}
 use Rattle.writer.proofs.Chunks.{AllLeaf, Leaf, all-leaf, joined, joined-chunks}

@@ -5,7 +5,7 @@ use lib.ListN.{drop, take}
 use Rattle.directory.specs.Entries.{Entry}
 use Rattle.directory.specs.Columns.{entries}
 use Rattle.directory.specs.Search.{All}
-use Rattle.writer.specs.Accept.{Narrow, Typed}
+use Rattle.writer.specs.Stock.{Narrow, Typed}
 use Rattle.writer.specs.Cells.{part}
 
 pub all-narrow : (a b c d : List ℕ) → Typed a b c d → All Narrow (entries a b c d)

@@ -9,6 +9,8 @@ use borrow.Author.Tests.{le-leb, lt-leb}
 use lib.ListN.{drop, length}
 use lib.Seq.{sets, sets-eq}
 use Rattle.refusal.specs.Out.{Out, ok, bad, _>>=_, afterwards}
+use Rattle.refusal.specs.Number.{numberOf}
+use Rattle.refusal.specs.declared.Refusal.{Refusal}
 use Rattle.refusal.proofs.OutLaws.{bind-ok, ok-is}
 use Rattle.directory.specs.Entries.{Entry, Valid, maxCount}
 use Rattle.directory.specs.Columns.{entries, roomy}
@@ -16,12 +18,14 @@ use Rattle.directory.specs.Encode.{Fitting, encode}
 use Rattle.directory.specs.Decode.{decode}
 use Rattle.directory.specs.Search.{All, counting, shortest, stored}
 use Rattle.directory.proofs.Round.{decode-encode}
-use Rattle.writer.specs.Accept.{Narrow, Typed}
+use Rattle.writer.specs.Stock.{Narrow, Typed}
 use Rattle.writer.specs.Write.{checkAll, encoding}
-use Rattle.writer.specs.Answers.{laid, lengthOf, writing}
-use Rattle.writer.specs.Cells.{Ready, Wrote, part}
+use Rattle.writer.specs.Answers.{laid, lengthOf, saidLength, writing}
+use Rattle.writer.specs.Cells.{Ready, part}
+use Rattle.writer.specs.declared.Length.{Length}
+use Rattle.writer.specs.declared.Length.the-variants as le
 use Rattle.writer.proofs.Coded.{all-sound, all-then}
-use Rattle.writer.proofs.Counting.{counting-sound, counting-then, enough}
+use Rattle.directory.proofs.Counting.{counting-sound, counting-then, enough}
 use Rattle.writer.proofs.Parts.{entries-length, part-length, stored-part}
 use Rattle.writer.proofs.Typed.{all-narrow, all-part}
 
@@ -83,34 +87,34 @@ module _ (n : ℕ) (a b c d old : List ℕ) where
   Answered r new =
       (r ≡ lengthOf (writing n a b c d (length old))) × (new ≡ afterwards (writing n a b c d (length old)) old (λ bytes. laid bytes old))
 
-  pub write-bad : (k : ℕ) → bad k ≡ lengthOf (encoding n a b c d) → Answered (bad k) old
-  unfolding writing
-  write-bad k h = rw (no-length (encoding n a b c d) k h) (refl, refl)
-
-  module _ (m : ℕ) (h : ok m ≡ lengthOf (encoding n a b c d)) where
-    bytes : (bytes : List ℕ) × (encoding n a b c d ≡ ok bytes) × (length bytes ≡ m)
-    bytes = let k = bind-ok (encoding n a b c d) (λ bytes. ok (length bytes)) m (sym h) in (k .0, k .1, ok-is (k .2))
-
-    pub write-short : length old < m → Answered (bad 15) old
+  module _ (x : Length) (h : saidLength x ≡ lengthOf (encoding n a b c d)) where
+    pub write-bad : {r : Refusal} → x ≡ le.Refused r → Answered (saidLength x) old
     unfolding writing
-    write-short s = rw (bytes .1, lt-leb (length (bytes .0)) (length old) (omega (arith, bytes .2))) (refl, refl)
+    write-bad {r = r} e = rw (no-length (encoding n a b c d) (numberOf r) (ap saidLength (sym e) ∙ h), e) (refl, refl)
 
-    module _ (t : Typed a b c d) where
-      encoded : Encoded n a b c d (bytes .0)
-      encoded = encoding-sound n a b c d t (bytes .0) (bytes .1)
+    module _ {m : ℕ} (e : x ≡ le.Bytes m) where
+      bytes : (bytes : List ℕ) × (encoding n a b c d ≡ ok bytes) × (length bytes ≡ m)
+      bytes = let k = bind-ok (encoding n a b c d) (λ bytes. ok (length bytes)) m (sym h ∙ ap saidLength e) in (k .0, k .1, ok-is (k .2))
 
-      the-bytes : encode (part 0 n (entries a b c d)) ≡ bytes .0
-      the-bytes = ap encode (sym (stored-part n a b c d)) ∙ encoded .same
-
-      pub write-ready : m ≤ length old → Ready 0 n (entries a b c d) × (length (encode (part 0 n (entries a b c d))) ≤ length old)
-      write-ready s = (
-        record { order = omega arith; few = encoded .few; inside = encoded .inside; fits = rw stored-part at (encoded .fits) },
-        omega (arith, ap length the-bytes, bytes .2),
-      )
-
-      pub write-ok : m ≤ length old → (new : List ℕ) (r : ℕ) → Wrote old 0 (encode (part 0 n (entries a b c d))) new r → Answered (ok r) new
+      pub write-short : length old < m → Answered (bad 15) old
       unfolding writing
-      write-ok s new r w =
-          let q : r ≡ length (bytes .0) = omega (arith, w .past, ap length the-bytes) in
-          rw (bytes .1, le-leb (length (bytes .0)) (length old) (omega (arith, bytes .2)))
-          (ap ok q, w .held ∙ ap (sets old 0) the-bytes ∙ landing (bytes .0) old (omega (arith, bytes .2)))
+      write-short s = rw (bytes .1, lt-leb (length (bytes .0)) (length old) (omega (arith, bytes .2))) (refl, refl)
+
+      module _ (t : Typed a b c d) (s : m ≤ length old) where
+        encoded : Encoded n a b c d (bytes .0)
+        encoded = encoding-sound n a b c d t (bytes .0) (bytes .1)
+
+        the-bytes : encode (part 0 n (entries a b c d)) ≡ bytes .0
+        the-bytes = ap encode (sym (stored-part n a b c d)) ∙ encoded .same
+
+        pub write-ready : Ready 0 n (entries a b c d) × (length (encode (part 0 n (entries a b c d))) ≤ length old)
+        write-ready = (
+          record { order = omega arith; few = encoded .few; inside = encoded .inside; fits = rw stored-part at (encoded .fits) },
+          omega (arith, ap length the-bytes, bytes .2),
+        )
+
+        pub write-ok : (new : List ℕ) → new ≡ sets old 0 (encode (part 0 n (entries a b c d))) → Answered (ok m) new
+        unfolding writing
+        write-ok new w =
+            rw (bytes .1, le-leb (length (bytes .0)) (length old) (omega (arith, bytes .2)))
+            (ap ok (sym (bytes .2)), w ∙ ap (sets old 0) the-bytes ∙ landing (bytes .0) old (omega (arith, bytes .2)))

@@ -7,14 +7,13 @@ use lib.ListN.{drop, length}
 use Rattle.refusal.specs.Out.{Out, ok, bad, _>>=_, afterwards, need}
 use Rattle.refusal.specs.Number.{numberOf}
 use Rattle.directory.specs.Entries.{Entry}
+use Rattle.acceptance.specs.Accept.{accepting}
+use Rattle.acceptance.specs.declared.Counts.{Counts}
 use Rattle.writer.specs.Write.{encoding}
-use Rattle.writer.specs.Build.{Directories, accepting, addressed, build}
-use Rattle.writer.specs.declared.Counts.{Counts}
+use Rattle.writer.specs.Build.{Directories, build}
 use Rattle.writer.specs.declared.Sizes.{Sizes}
 use Rattle.writer.specs.declared.Length.{Length}
 use Rattle.writer.specs.declared.Length.the-variants as le
-use Rattle.writer.specs.declared.Accepted.{Accepted}
-use Rattle.writer.specs.declared.Accepted.the-variants as ac
 use Rattle.writer.specs.declared.Sized.{Sized}
 use Rattle.writer.specs.declared.Sized.the-variants as si
 use Rattle.writer.specs.declared.Built.{Built}
@@ -23,10 +22,6 @@ use Rattle.writer.specs.declared.Built.the-variants as bu
 abbrev pub saidLength : Length → Out ℕ
 saidLength (le.Bytes n) = ok n
 saidLength (le.Refused r) = bad (numberOf r)
-
-abbrev pub saidAccepted : Accepted → Out Counts
-saidAccepted (ac.Counts c) = ok c
-saidAccepted (ac.Refused r) = bad (numberOf r)
 
 abbrev pub saidSized : Sized → Out Sizes
 saidSized (si.Sizes s) = ok s
@@ -46,13 +41,6 @@ writing n ids runs lens offs room = encoding n ids runs lens offs >>= λ bytes. 
 
 abbrev pub lengthOf : Out (List ℕ) → Out ℕ
 lengthOf x = x >>= λ bytes. ok (length bytes)
-
--- what the builder counts
-abbrev pub countsOf : List Entry → Counts
-countsOf es = record { «n_tile_entries» = length es; «n_addressed_tiles» = addressed es }
-
-abbrev pub countsIn : Out (List Entry) → Out Counts
-countsIn x = x >>= λ es. ok (countsOf es)
 
 abbrev pub sizesOf : Directories → Sizes
 sizesOf d = record { root = length (d .root); leaves = length (d .leaves) }

@@ -4,29 +4,8 @@ use mathlib.Core.Bool.{cond, _&&_}
 use mathlib.Core.List.{List, [], _∷_, _++_}
 use lib.Dec.{leb, ltb}
 use lib.ListN.{length, take, drop}
-use Rattle.refusal.specs.Out.{Out, ok, need}
-use Rattle.directory.specs.Entries.{Entry, after, checkOne, entry}
+use Rattle.directory.specs.Entries.{Entry, entry}
 use Rattle.directory.specs.Encode.{encode}
-use Rattle.directory.specs.Search.{counting, stored}
-
--- ---- what the builder takes
-
--- 12 for a run of 0, then 12, 13, 14 as in reading; 17: the contents do not lie in the `size` bytes of tile data
-abbrev pub checkTile : {A : Type 0} → ℕ → ℕ → Entry → Out A → Out A
-checkTile size lo e x = need (ltb 0 (e .run)) 12 (checkOne lo e (need (leb (e .off + e .len) size) 17 x))
-
-abbrev pub checkTiles : {A : Type 0} → ℕ → ℕ → List Entry → Out A → Out A
-checkTiles size lo [] x = x
-checkTiles size lo (e ∷ es) x = checkTile size lo e (checkTiles size (after e) es x)
-
--- the first n entries of four stores, if the builder takes them
-unfoldable pub accepting : ℕ → List ℕ → List ℕ → List ℕ → List ℕ → ℕ → Out (List Entry)
-accepting n ids runs lens offs size = counting n ids runs lens offs (checkTiles size 0 (stored n ids runs lens offs) (ok (stored n ids runs lens offs)))
-
--- the tiles addressed: the sum of the runs
-abbrev pub addressed : List Entry → ℕ
-addressed [] = 0
-addressed (e ∷ es) = e .run + addressed es
 
 -- ---- leaves
 

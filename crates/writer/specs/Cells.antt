@@ -12,7 +12,6 @@ use Rattle.directory.specs.Entries.{Entry, after, maxCount}
 use Rattle.directory.specs.Columns.{endOf}
 use Rattle.directory.specs.Encode.{Fitting, codeOf, codes, differences, putAll}
 use Rattle.writer.specs.Write.{checkCoded}
-use Rattle.writer.specs.Build.{checkTile}
 use Rattle.writer.specs.declared.sizing.End.{End}
 
 -- the elements from one place up to another
@@ -63,10 +62,6 @@ sizeFrom prev p es =
     length (putAll wide (differences prev es))
     + (length (putAll narrow (map (λ e. e .run) es)) + (length (putAll narrow (map (λ e. e .len) es)) + length (putAll wide (codes p es))))
 
--- ---- the checks of one entry
-
+-- the checks of one entry: the least id that may follow
 unfoldable pub codedOne : ℕ → Option ℕ → Entry → Out ℕ
 codedOne lo p e = checkCoded lo p e (ok (after e))
-
-unfoldable pub tileOne : ℕ → ℕ → Entry → Out ℕ
-tileOne size lo e = checkTile size lo e (ok (after e))

@@ -1,6 +1,6 @@
 pub mod Write
 pub mod Build
 pub mod Answers
-pub mod Accept
+pub mod Stock
 pub mod Cells
 pub mod Cuts

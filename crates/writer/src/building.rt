@@ -1,24 +1,27 @@
 // Root and leaves of what the stores hold.
 ghost use Prim.Native.Nat.{_≤_};
+ghost use mathlib.Core.Bool.{_&&_};
 ghost use mathlib.Core.Path.{_≡_};
+ghost use lib.Dec.{leb};
 ghost use lib.ListN.{length};
 ghost use Rattle.directory.specs.Columns.{entries};
-ghost use Rattle.writer.specs.Accept.{Stock};
-ghost use Rattle.writer.specs.Build.{accepting};
-ghost use Rattle.writer.specs.Answers.{BuiltFrom, building, countsOf, fitted, saidSized, sizesIn};
+ghost use Rattle.acceptance.specs.Accept.{accepting};
+ghost use Rattle.acceptance.specs.Answers.{countsOf};
+ghost use Rattle.writer.specs.Stock.{Stock};
+ghost use Rattle.writer.specs.Answers.{BuiltFrom, building, fitted, saidSized, sizesIn};
 ghost use Rattle.writer.specs.Cells.{part};
 ghost use Rattle.writer.specs.Cuts.{Planned};
-use crate::Accepted;
 use crate::Built;
-use crate::Counts;
 use crate::Sized;
 use crate::Sizes;
-use crate::accepting::accept;
 use crate::columns::put_entries;
 use crate::leaves::Plan;
 use crate::leaves::choose;
 use crate::leaves::put_split;
 use crate::sizing::sized;
+use acceptance::Accepted;
+use acceptance::Counts;
+use acceptance::accept;
 use refusal::Refusal;
 
 // A root only where it fits, else leaves.
@@ -63,6 +66,16 @@ pub fn build_sizes(
     }
 }
 
+// Whether the root and the leaves fit buffers of so many bytes.
+fn has_room(sizes: Sizes, root: usize, leaves: usize) -> bool
+    ensures { λ r. ⌜ r ≡ leb (sizes .root) root && leb (sizes .leaves) leaves ⌝ }
+{
+    if root < sizes.root {
+        return false;
+    }
+    sizes.leaves <= leaves
+}
+
 // Entries that were accepted. The counts go on as they are.
 fn finish(
     count: usize,
@@ -80,29 +93,26 @@ fn finish(
 {
     let p = plan(count, ids, runs, lengths, offsets);
     let sizes = p.sizes;
-    if root.len() < sizes.root {
-        return Built::Refused(Refusal::RoomTooShort);
-    }
-    if leaves.len() < sizes.leaves {
-        return Built::Refused(Refusal::RoomTooShort);
-    }
-    let k = p.leaf;
-    if k == 0 {
-        put_entries(ids, runs, lengths, offsets, 0, count, root);
+    if has_room(sizes, root.len(), leaves.len()) {
+        let k = p.leaf;
+        if k == 0 {
+            put_entries(ids, runs, lengths, offsets, 0, count, root);
+            return Built::Done(sizes, counts);
+        }
+        put_split(
+            count,
+            k,
+            p.pointers,
+            ids,
+            runs,
+            lengths,
+            offsets,
+            root,
+            leaves,
+        );
         return Built::Done(sizes, counts);
     }
-    put_split(
-        count,
-        k,
-        p.pointers,
-        ids,
-        runs,
-        lengths,
-        offsets,
-        root,
-        leaves,
-    );
-    Built::Done(sizes, counts)
+    Built::Refused(Refusal::RoomTooShort)
 }
 
 // Root and leaves of the first `count` entries of the stores, at the start of their buffers.

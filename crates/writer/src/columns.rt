@@ -6,10 +6,10 @@ ghost use Rattle.varint.specs.Varint.{narrow, put, wide};
 ghost use Rattle.directory.specs.Columns.{entries};
 ghost use Rattle.directory.specs.Encode.{encode, putAll};
 ghost use Rattle.writer.specs.Cells.{Below, Ready, Rising, Wrote, deltas, offsetCodes, part};
-use crate::entries::wide;
 use crate::sizing::End;
 use crate::sizing::code;
 use directory::Offset;
+use directory::wide;
 use varint::Cursor;
 use varint::Written;
 

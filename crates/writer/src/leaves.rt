@@ -6,7 +6,7 @@ ghost use lib.Seq.{sets};
 ghost use Rattle.varint.specs.Varint.{narrow, wide};
 ghost use Rattle.directory.specs.Columns.{entries};
 ghost use Rattle.directory.specs.Encode.{encode, putAll};
-ghost use Rattle.writer.specs.Accept.{Stock};
+ghost use Rattle.writer.specs.Stock.{Stock};
 ghost use Rattle.writer.specs.Build.{leafSize, leavesOf, pointers};
 ghost use Rattle.writer.specs.Cells.{Rising, Wrote, deltas, part};
 ghost use Rattle.writer.specs.Cuts.{Measured, cuts, every, firstSize, leafCodes, leafEnd, leafLengths};

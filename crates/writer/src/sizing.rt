@@ -7,8 +7,8 @@ ghost use Rattle.directory.specs.Entries.{entry};
 ghost use Rattle.directory.specs.Columns.{entries};
 ghost use Rattle.directory.specs.Encode.{codeOf, encode};
 ghost use Rattle.writer.specs.Cells.{Ready, endAt, part, sizeFrom};
-use crate::entries::wide;
 use directory::Offset;
+use directory::wide;
 
 // Where the entry before ends: its offset and length, unless there is none before.
 pub(crate) struct End {

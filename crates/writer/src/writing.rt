@@ -14,13 +14,13 @@ ghost use Rattle.writer.specs.Answers.{laid, lengthOf, saidLength, writi
 ghost use Rattle.writer.specs.Cells.{codedOne, endAt, part};
 use crate::Length;
 use crate::columns::put_entries;
-use crate::entries::check_count;
-use crate::entries::wide;
 use crate::sizing::End;
 use crate::sizing::entry_size;
 use directory::Checked;
 use directory::Offset;
+use directory::check_count;
 use directory::check_entry;
+use directory::wide;
 use refusal::Refusal;
 
 // Whether an offset's code fits.
@@ -42,17 +42,14 @@ fn code_fits(end: End, offset: Offset) -> bool
 fn check_coded(lo: u64, end: End, id: u64, run: u32, length: u32, offset: Offset) -> Checked
     ensures { λ r. ⌜ saidChecked r ≡ codedOne lo (endAt end) (entry id run length (offset .0)) ⌝ }
 {
-    match check_entry(lo, id, run, length) {
-        Checked::Refused(r) => {
-            return Checked::Refused(r);
-        }
-        Checked::Next(next) => {
-            if code_fits(end, offset) {
-                return Checked::Next(next);
-            }
-            return Checked::Refused(Refusal::SumTooLarge);
-        }
+    let c = check_entry(lo, id, run, length);
+    let Checked::Next(_) = c else {
+        return c;
+    };
+    if code_fits(end, offset) {
+        return c;
     }
+    Checked::Refused(Refusal::SumTooLarge)
 }
 
 // The checks, and how many bytes the entries take: one pass.
@@ -127,15 +124,13 @@ pub fn write(
     ensures { λ r. ⌜ (saidLength r ≡ lengthOf (writing count (now (ids .entry)) (now (runs .entry)) (now (lengths .entry)) (now (offsets .entry)) (length (now (out .entry)))))
         × (now (out .exit) ≡ afterwards (writing count (now (ids .entry)) (now (runs .entry)) (now (lengths .entry)) (now (offsets .entry)) (length (now (out .entry)))) (now (out .entry)) (λ b. laid b (now (out .entry)))) ⌝ }
 {
-    match encoded_len(count, ids, runs, lengths, offsets) {
-        Length::Refused(r) => {
-            return Length::Refused(r);
-        }
-        Length::Bytes(n) => {
-            if out.len() < n {
-                return Length::Refused(Refusal::RoomTooShort);
-            }
-            return Length::Bytes(put_entries(ids, runs, lengths, offsets, 0, count, out));
-        }
+    let l = encoded_len(count, ids, runs, lengths, offsets);
+    let Length::Bytes(n) = l else {
+        return l;
+    };
+    if out.len() < n {
+        return Length::Refused(Refusal::RoomTooShort);
     }
+    put_entries(ids, runs, lengths, offsets, 0, count, out);
+    l
 }

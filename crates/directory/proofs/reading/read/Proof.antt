@@ -1,8 +1,7 @@
 -- `reading::read` meets its contract. Assumes nothing.
-use mathlib.Core.Path.{subst, _∙_}
+use native.Mathlib.Omega.{arith}
 use borrow.Author.Needs.{needs}
 use denote.Ref.{now}
-use Rattle.directory.specs.Stores.{Filling, reading}
 use Rattle.directory.proofs.Kept.{as-read, as-refused}
 use Rattle.directory.proofs.reading.read.Statement.{statement}
 use Rattle.directory.proofs.reading.read.Tie as tie
@@ -10,11 +9,30 @@ use Rattle.directory.proofs.reading.read.Tie as tie
 fill-requires : tie.Need-fill-requires
 fill-requires c κs = search needs
 
-enum-known-n : tie.Need-enum-known-n
-enum-known-n c = search needs
+enum-told : tie.Need-enum-told
+enum-told c = search needs
 
-enum-known-r : tie.Need-enum-known-r
-enum-known-r c = search needs
+enum-told-2 : tie.Need-enum-told-2
+enum-told-2 c = search needs
+
+same-length : tie.Need-same-length
+same-length c = c .before .before .before .before .before .before .before .before .before .before .fill .kept .1 .0
+
+same-length-2 : tie.Need-same-length-2
+same-length-2 c = c .before .before .before .before .before .before .before .before .before .before .fill .kept .1 .1 .0
+
+same-length-3 : tie.Need-same-length-3
+same-length-3 c = c .before .before .before .before .before .before .before .before .before .before .fill .kept .1 .1 .1 .0
+
+same-length-4 : tie.Need-same-length-4
+same-length-4 c = c .before .before .before .before .before .before .before .before .before .before .fill .kept .1 .1 .1 .1 .0
+
+returns : tie.Need-returns
+returns c =
+    let a = c .before .before .before .before .before .before .before .before .before .before .before .before .before .before .before .before .before .before .before .before .args in
+    let q = c .before .before .before .before .before .before .before .before .before .before .fill in
+    as-read (now (a .ids)) (q .last .1 .0) (now (a .runs)) (q .last .1 .1 .0) (now (a .lengths)) (q .last .1 .1 .1 .0) (now (a .offsets)) (q .last .1 .1 .1 .1 .0) (c .enum-told2 .given .1) (q .ensures)
+    (q .kept .1 .0) (q .kept .1 .1 .0) (q .kept .1 .1 .1 .0) (q .kept .1 .1 .1 .1 .0)
 
 zero-u64-requires : tie.Need-zero-u64-requires
 zero-u64-requires c κs = search needs
@@ -28,44 +46,23 @@ zero-u32-requires-2 c κs = search needs
 zero-u64-requires-2 : tie.Need-zero-u64-requires-2
 zero-u64-requires-2 c κs = search needs
 
-same-length : tie.Need-same-length
-same-length c = c .before .before .before .before .before .before .before .before .before .before .before .fill .kept .1 .0
-
-same-length-2 : tie.Need-same-length-2
-same-length-2 c = c .before .before .before .before .before .before .before .before .before .before .before .fill .kept .1 .1 .0
-
-same-length-3 : tie.Need-same-length-3
-same-length-3 c = c .before .before .before .before .before .before .before .before .before .before .before .fill .kept .1 .1 .1 .0
-
-same-length-4 : tie.Need-same-length-4
-same-length-4 c = c .before .before .before .before .before .before .before .before .before .before .before .fill .kept .1 .1 .1 .1 .0
-
-returns : tie.Need-returns
-returns c =
-    let a = c .before .before .before .before .before .before .before .before .before .before .before .before .before .before .before .before .before .before .before .before .before .args in
-    let q = c .before .before .before .before .before .before .before .before .before .before .before .fill in
-    as-read (now (a .ids)) (q .last .1 .0) (now (a .runs)) (q .last .1 .1 .0) (now (a .lengths)) (q .last .1 .1 .1 .0) (now (a .offsets)) (q .last .1 .1 .1 .1 .0) _ _
-    (subst (λ r. Filling r (reading (now (a .bytes)) (now (a .ids)) (now (a .runs)) (now (a .lengths)) (now (a .offsets))) (now (a .ids)) (q .last .1 .0) (now (a .runs)) (q .last .1 .1 .0) (now (a .lengths)) (q .last .1 .1 .1 .0) (now (a .offsets)) (q .last .1 .1 .1 .1 .0)) (c .before .n .given .1) (q .ensures))
-    (q .kept .1 .0) (q .kept .1 .1 .0) (q .kept .1 .1 .1 .0) (q .kept .1 .1 .1 .1 .0)
-
 same-length-5 : tie.Need-same-length-5
-same-length-5 c = c .before .before .before .before .before .before .before .before .before .before .before .before .before .before .zero-u64 .kept .0 ∙ c .before .before .before .before .before .before .before .before .before .before .before .before .before .before .before .before .before .before .before .before .before .before .before .before .before .before .before .fill .kept .1 .0
+same-length-5 c = omega (arith, c .before .before .before .before .before .before .before .before .before .before .before .before .before .before .zero-u64 .kept, c .before .before .zero-u642 .kept, c .before .before .before .before .before .before .before .before .before .before .before .before .before .before .before .before .before .before .before .before .before .before .before .before .before .before .fill .kept)
 
 same-length-6 : tie.Need-same-length-6
-same-length-6 c = c .before .before .before .before .before .before .before .before .before .before .zero-u32 .kept .0 ∙ c .before .before .before .before .before .before .before .before .before .before .before .before .before .before .before .before .before .before .before .before .before .before .before .before .before .before .before .fill .kept .1 .1 .0
+same-length-6 c = omega (arith, c .before .before .before .before .before .before .before .before .before .before .zero-u32 .kept, c .before .before .before .before .before .before .before .before .before .before .before .before .before .before .before .before .before .before .before .before .before .before .before .before .before .before .fill .kept)
 
 same-length-7 : tie.Need-same-length-7
-same-length-7 c = c .before .before .before .before .before .before .zero-u322 .kept .0 ∙ c .before .before .before .before .before .before .before .before .before .before .before .before .before .before .before .before .before .before .before .before .before .before .before .before .before .before .before .fill .kept .1 .1 .1 .0
+same-length-7 c = omega (arith, c .before .before .before .before .before .before .zero-u322 .kept, c .before .before .before .before .before .before .before .before .before .before .before .before .before .before .before .before .before .before .before .before .before .before .before .before .before .before .fill .kept)
 
 same-length-8 : tie.Need-same-length-8
-same-length-8 c = c .before .before .zero-u642 .kept .0 ∙ c .before .before .before .before .before .before .before .before .before .before .before .before .before .before .before .before .before .before .before .before .before .before .before .before .before .before .before .fill .kept .1 .1 .1 .1 .0
+same-length-8 c = omega (arith, c .before .before .zero-u642 .kept, c .before .before .before .before .before .before .before .before .before .before .before .before .before .before .before .before .before .before .before .before .before .before .before .before .before .before .fill .kept)
 
 returns-2 : tie.Need-returns-2
 returns-2 c =
-    let a = c .before .before .before .before .before .before .before .before .before .before .before .before .before .before .before .before .before .before .before .before .before .before .before .before .before .before .before .before .before .before .before .before .before .before .before .before .before .args in
-    let q = c .before .before .before .before .before .before .before .before .before .before .before .before .before .before .before .before .before .before .before .before .before .before .before .before .before .before .before .fill in
-    as-refused (now (a .ids)) (q .last .1 .0) (now (a .runs)) (q .last .1 .1 .0) (now (a .lengths)) (q .last .1 .1 .1 .0) (now (a .offsets)) (q .last .1 .1 .1 .1 .0) _
-    (subst (λ r. Filling r (reading (now (a .bytes)) (now (a .ids)) (now (a .runs)) (now (a .lengths)) (now (a .offsets))) (now (a .ids)) (q .last .1 .0) (now (a .runs)) (q .last .1 .1 .0) (now (a .lengths)) (q .last .1 .1 .1 .0) (now (a .offsets)) (q .last .1 .1 .1 .1 .0)) (c .before .before .before .before .before .before .before .before .before .before .before .before .before .before .before .before .before .r .given .1) (q .ensures))
+    let a = c .before .before .before .before .before .before .before .before .before .before .before .before .before .before .before .before .before .before .before .before .before .before .before .before .before .before .before .before .before .before .before .before .before .before .before .before .args in
+    let q = c .before .before .before .before .before .before .before .before .before .before .before .before .before .before .before .before .before .before .before .before .before .before .before .before .before .before .fill in
+    as-refused (now (a .ids)) (q .last .1 .0) (now (a .runs)) (q .last .1 .1 .0) (now (a .lengths)) (q .last .1 .1 .1 .0) (now (a .offsets)) (q .last .1 .1 .1 .1 .0) (c .before .before .before .before .before .before .before .before .before .before .before .before .before .before .before .before .enum-told .given .1) (q .ensures)
     (q .kept .1 .0) (q .kept .1 .1 .0) (q .kept .1 .1 .1 .0) (q .kept .1 .1 .1 .1 .0)
     (c .before .before .before .before .before .before .before .before .before .before .before .before .before .before .zero-u64 .ensures)
     (c .before .before .before .before .before .before .before .before .before .before .zero-u32 .ensures)
@@ -77,17 +74,17 @@ read-spec =
     tie.close
     (tie.spec
     fill-requires
-    enum-known-n
-    enum-known-r
-    zero-u64-requires
-    zero-u32-requires
-    zero-u32-requires-2
-    zero-u64-requires-2
+    enum-told
+    enum-told-2
     same-length
     same-length-2
     same-length-3
     same-length-4
     returns
+    zero-u64-requires
+    zero-u32-requires
+    zero-u32-requires-2
+    zero-u64-requires-2
     same-length-5
     same-length-6
     same-length-7

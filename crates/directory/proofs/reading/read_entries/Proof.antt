@@ -1,7 +1,8 @@
 -- `reading::read_entries` meets its contract. Assumes nothing.
-use mathlib.Core.Path.{_∙_}
 use native.Mathlib.Omega.{arith}
 use borrow.Author.Needs.{needs}
+use denote.Ref.{now}
+use Rattle.directory.proofs.Kept.{filled}
 use Rattle.directory.proofs.Places.{four-columns}
 use Rattle.directory.proofs.reading.read_entries.Statement.{statement}
 use Rattle.directory.proofs.reading.read_entries.Tie as tie
@@ -38,14 +39,13 @@ returns c =
     let i = c .before .before .before .before .before .before .before .before .before .before .before .before .before .before .before .before .before .before .before .read-ids in
     let m = c .before .before .before .before .before .before .before .before .before .before .before .before .before .before .before .read-plain in
     let l = c .before .before .before .before .before .before .before .before .before .before .before .read-plain2 in
-    let o = c .before .before .before .before .before .before .read-offsets in (
-      c .check-read .ensures (o .last .1 .1 .1 .1 .0) (omega (arith, c .before .before .before .before .before .before .before .before .before .before .before .before .before .before .before .before .before .before .before .before .before .before .before .before .before .before .pre))
-          ∙ four-columns _ _ _ _ _ (l .last .1 .1 .1 .0) _ (i .result) (m .result) (l .result) (o .result) (i .ensures .0) (m .ensures .0) (l .ensures .0) (o .ensures .0),
-      i .ensures .1,
-      m .ensures .1,
-      l .ensures .1,
-      o .ensures .1,
-    )
+    let o = c .before .before .before .before .before .before .read-offsets in
+    let s = c .before .before .before .before .before .before .before .before .before .before .before .before .before .before .before .before .before .before .before .before .before .before .before .before .before .before in
+    let a = s .args in
+    filled (c .check-read .result) (now (a .ids)) (i .last .1 .1 .1 .0) (now (a .runs)) (m .last .1 .1 .1 .0) (now (a .lengths)) (l .last .1 .1 .1 .0) (now (a .offsets)) (o .last .1 .1 .1 .1 .0) (s .pre)
+    (c .check-read .ensures (o .last .1 .1 .1 .1 .0) (omega (arith, s .pre)))
+    (four-columns _ _ _ _ _ (l .last .1 .1 .1 .0) _ (i .result) (m .result) (l .result) (o .result) (i .ensures .0) (m .ensures .0) (l .ensures .0) (o .ensures .0))
+    (i .ensures .1) (m .ensures .1) (l .ensures .1) (o .ensures .1)
 
 pub read-entries-spec : {M : Type 1} → statement M
 read-entries-spec =

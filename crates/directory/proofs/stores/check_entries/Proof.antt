@@ -40,8 +40,14 @@ shared-slice-read-check-entry-3 c = search needs
 check-entry-requires : tie.Need-check-entry-requires Inv-loop μ-loop
 check-entry-requires c κs = search needs
 
-enum-known-next : tie.Need-enum-known-next Inv-loop μ-loop
-enum-known-next c = search needs
+enum-known-c : tie.Need-enum-known-c Inv-loop μ-loop
+enum-known-c c = search needs
+
+enum-told : tie.Need-enum-told Inv-loop μ-loop
+enum-told c = search needs
+
+returns : tie.Need-returns Inv-loop μ-loop
+returns c = pass-stop (c .before .before .before .before .before .before .before .loop .inv) (omega arith) (ap saidChecked (c .enum-told .given .1)) (c .before .before .check-entry .ensures)
 
 add-i : tie.Need-add-i Inv-loop μ-loop
 add-i c = search needs
@@ -50,13 +56,7 @@ loop-less : tie.Need-loop-less Inv-loop μ-loop
 loop-less c = search needs
 
 loop-again : tie.Need-loop-again Inv-loop μ-loop
-loop-again c = pass-turn (c .before .before .before .before .before .before .before .before .loop .inv) (omega arith) (ap saidChecked (sym (c .before .next .given .1)) ∙ c .before .before .before .check-entry .ensures)
-
-enum-known-r : tie.Need-enum-known-r Inv-loop μ-loop
-enum-known-r c = search needs
-
-returns : tie.Need-returns Inv-loop μ-loop
-returns c = pass-stop (c .before .before .before .before .before .before .before .before .loop .inv) (omega arith) (ap saidChecked (sym (c .before .r .given .1)) ∙ c .before .before .before .check-entry .ensures)
+loop-again c = pass-turn (c .before .before .before .before .before .before .before .before .loop .inv) (omega arith) (ap saidChecked (sym (c .before .c .given .1)) ∙ c .before .before .before .check-entry .ensures)
 
 returns-2 : tie.Need-returns-2 Inv-loop μ-loop
 returns-2 c = pass-done (c .before .loop .inv) (omega arith)
@@ -75,10 +75,10 @@ check-entries-spec =
     mul-check-entry-3
     shared-slice-read-check-entry-3
     check-entry-requires
-    enum-known-next
+    enum-known-c
+    enum-told
+    returns
     add-i
     loop-less
     loop-again
-    enum-known-r
-    returns
     returns-2)

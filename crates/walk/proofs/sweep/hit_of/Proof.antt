@@ -2,7 +2,7 @@
 use mathlib.Core.Path.{_∙_}
 use native.Mathlib.Omega.{arith}
 use borrow.Author.Needs.{needs}
-use Rattle.directory.proofs.Last.{answered}
+use Rattle.search.proofs.Hits.{answered}
 use Rattle.walk.proofs.sweep.hit_of.Statement.{statement}
 use Rattle.walk.proofs.sweep.hit_of.Tie as tie
 

@@ -2,7 +2,8 @@
 use mathlib.Core.Path.{ap, sym, _∙_}
 use denote.Ref.{now}
 use lib.ListN.{length}
-use Rattle.writer.specs.Answers.{building, countsOf, saidAccepted}
+use Rattle.acceptance.specs.Answers.{countsOf, saidAccepted}
+use Rattle.writer.specs.Answers.{building}
 use Rattle.writer.proofs.Finished.{accepted-ready, building-bad, building-from, refused}
 use borrow.Author.Needs.{needs}
 use Rattle.writer.proofs.building.build.Statement.{statement}

@@ -1,7 +1,7 @@
 -- `building::build_sizes` meets its contract. Assumes nothing.
 use mathlib.Core.Path.{ap, sym, _∙_}
 use denote.Ref.{now}
-use Rattle.writer.specs.Answers.{saidAccepted}
+use Rattle.acceptance.specs.Answers.{saidAccepted}
 use Rattle.writer.proofs.Finished.{accepted-ready, sizes-are, sizes-bad}
 use borrow.Author.Needs.{needs}
 use Rattle.writer.proofs.building.build_sizes.Statement.{statement}

@@ -1,0 +1,3 @@
+pub mod Tiles
+pub mod Accepts
+pub mod Only
