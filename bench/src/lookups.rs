@@ -1,7 +1,7 @@
 //! A search in one directory, and lookups in archives of one and of two directories, against the Rust's decode and search:
 //! `Directory::try_from` and `find_tile_id`, and for an archive `Header::try_from_bytes` before them. The Rust checks no
 //! entry; the core checks every one.
-use crate::{compare, core, mixed};
+use crate::{Series, core, mixed};
 use bytes::Bytes;
 use linked::Random;
 use pmtiles::{Directory, Header, PmTilesWriter, Row, TileId, entry, row, write_directory};
@@ -69,16 +69,18 @@ fn sum(found: Option<(u64, u64)>) -> u64 {
 }
 
 pub fn run() {
-    for (n, tries) in [(10, 100_000), (4096, 500), (1_000_000, 2)] {
-        for (kind, short) in [("short", true), ("mixed", false)] {
+    for (kind, short) in [("short", true), ("mixed", false)] {
+        let mut series = Series::default();
+        for (n, tries) in [(10, 100_000), (4096, 500), (1_000_000, 2)] {
             let rows = rows(n, short);
             let targets = targets(&rows, tries);
             let bytes = Bytes::from(write_directory(rows).unwrap());
             let values =
                 |e: Option<Row>| e.map_or(1, |(i, r, l, o)| i ^ u64::from(r) << 20 ^ u64::from(l) << 30 ^ o << 1);
-            compare(
+            series.compare(
                 &format!("find, {n} {kind} entries"),
                 tries,
+                n,
                 || {
                     targets
                         .iter()
@@ -92,6 +94,7 @@ pub fn run() {
             );
         }
     }
+    let mut series = Series::default();
     for (kind, n) in [("one directory", 4000), ("two directories", 1_000_000)] {
         let rows = rows(n, true);
         let targets = targets(&rows, 500);
@@ -102,9 +105,10 @@ pub fn run() {
         archive.extend(&leaves);
         archive.resize(archive.len() + data as usize, 0);
         let archive = Bytes::from(archive);
-        compare(
+        series.compare(
             &format!("lookup, {n} short entries, {kind}"),
             targets.len(),
+            1,
             || targets.iter().fold(0, |s, &t| mixed(s, sum(core::lookup(&archive, t)))),
             || targets.iter().fold(0, |s, &t| mixed(s, sum(lookup_rust(&archive, t)))),
         );

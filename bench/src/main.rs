@@ -32,15 +32,6 @@ fn measured(name: &str, n: usize, mut ours: impl FnMut() -> u64, mut rust: impl 
     best.map(|seconds| seconds * 1e9 / n as f64)
 }
 
-fn row(name: &str, each: [f64; 2], growth: &str) {
-    let ratio = each[1] / each[0];
-    println!("{name:<44} {:>14.2} {:>14.2} {ratio:>6.2} {growth}", each[0], each[1]);
-}
-
-pub fn compare(name: &str, n: usize, ours: impl FnMut() -> u64, rust: impl FnMut() -> u64) {
-    row(name, measured(name, n, ours, rust), "");
-}
-
 /// The same work at one size after the other. What one element costs, against the size before, is told for both sides.
 #[derive(Default)]
 pub struct Series(Option<[f64; 2]>);
@@ -53,7 +44,8 @@ impl Series {
             Some(before) => format!("{:>6.2} {:>6.2}", element[0] / before[0], element[1] / before[1]),
             None => String::new(),
         };
-        row(name, each, &growth);
+        let ratio = each[1] / each[0];
+        println!("{name:<44} {:>14.2} {:>14.2} {ratio:>6.2} {growth}", each[0], each[1]);
     }
 }
 
