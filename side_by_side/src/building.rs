@@ -81,7 +81,7 @@ fn check(case: &Build) -> Outcome {
 }
 
 /// The least data length that holds all contents.
-pub fn data_length(rows: &[Row]) -> u64 {
+fn data_length(rows: &[Row]) -> u64 {
     rows.iter().map(|r| r.3.saturating_add(r.2.into())).max().unwrap_or(0)
 }
 
@@ -93,7 +93,7 @@ fn whole(rows: Vec<Row>) -> Build {
     }
 }
 
-pub const TILES: Style = Style {
+const TILES: Style = Style {
     pointers: false,
     offset_bits: 50,
 };

@@ -1,22 +1,19 @@
 //! The list that crates/replay replays: inputs in the domain, and what the Rust answers to each.
 use crate::area::outside_by;
-use crate::building::{TILES, data_length};
 use crate::directories::some_bytes;
 use crate::headers;
 use crate::lookups;
-use crate::make::{self, Make};
+use crate::make::Make;
 use crate::plain::{self, Varints, put_varint};
 use crate::rust::{Rust, may_read, rust};
 use bytes::Bytes;
 use linked::Row;
-use pmtiles::{Directory, PmTilesWriter, PmtResult, TileCoord, TileId, entry};
+use pmtiles::{Directory, PmtResult, TileCoord, TileId};
 use std::path::Path;
 
-/// How much the program has room for: the list, the entries of a directory, those that are built and the bytes of leaves.
+/// How much the program has room for: the list, and the entries of a directory.
 const LIST: usize = 262_144;
 const ENTRIES: usize = 64;
-const TO_BUILD: usize = 4_200;
-const LEAVES: usize = 20_000;
 
 #[derive(Default)]
 struct List {
@@ -119,66 +116,13 @@ fn find(list: &mut List, bytes: &[u8], id: u64) {
     if outside_by(&plain::directory_find(&mut v, id), v.long).is_some() || !may_read(bytes) {
         return;
     }
-    list.add(b'f', &sought(id, bytes), || found(bytes, id));
-}
-
-/// The Rust reads a directory and then searches it, so one answer serves the search in bytes and the one in stores.
-fn found(bytes: &[u8], id: u64) -> PmtResult<String> {
-    let id = TileId::new(id)?;
-    let directory = Directory::try_from(Bytes::copy_from_slice(bytes))?;
-    Ok(directory
-        .find_tile_id(id)
-        .map_or_else(absent, |e| entries(&[pmtiles::row(e)])))
-}
-
-/// In stores, which the program fills by reading; so the directory must be a good one.
-fn find_stored(list: &mut List, bytes: &[u8], id: u64) {
-    let mut v = Varints::new(bytes);
-    if plain::directory_read(&mut v, Some(ENTRIES)).is_ok() && !v.long {
-        list.add(b's', &sought(id, bytes), || found(bytes, id));
-    }
-}
-
-/// Byte 97 is left out, the internal compression: 2 in the Rust's new header, 1 in ours.
-fn new_header(list: &mut List, compression: u8, tile_type: u8) {
-    list.add(b'n', &[compression, tile_type], || {
-        let header = pmtiles::default_header(compression.try_into()?, tile_type.try_into()?);
-        let bytes = pmtiles::write_header(&pmtiles::header_fields(&header))?;
-        Ok(format!("{} {}", digits(&bytes[..97]), digits(&bytes[98..])))
+    list.add(b'f', &sought(id, bytes), || {
+        let id = TileId::new(id)?;
+        let directory = Directory::try_from(Bytes::copy_from_slice(bytes))?;
+        Ok(directory
+            .find_tile_id(id)
+            .map_or_else(absent, |e| entries(&[pmtiles::row(e)])))
     });
-}
-
-fn build(list: &mut List, rows: &[Row], data_length: u64) {
-    let made = plain::build(rows, rows.len(), data_length).and_then(|b| plain::fitted(b, plain::ROOT_ROOM, LEAVES));
-    if made.is_err() || rows.len() > TO_BUILD {
-        return;
-    }
-    list.add(b'b', &sought(data_length, &make::bytes(rows)), || {
-        let (root, leaves) = PmTilesWriter::oracle_build(rows.iter().copied().map(entry).collect())?;
-        Ok(format!("{} {}", digits(&root), digits(&leaves)))
-    });
-}
-
-/// Short entries that take two leaves, since the first has no more than 4,096 of them.
-fn short_rows(make: &mut Make) -> Vec<Row> {
-    let (mut id, mut end) = (0, 0);
-    let row = |_| {
-        let (run, length) = (1 + make.below(9) as u32, 1 + make.below(99) as u32);
-        let row = (id + make.below(9), run, length, end);
-        (id, end) = (row.0 + u64::from(run), end + u64::from(length));
-        row
-    };
-    (0..TO_BUILD).map(row).collect()
-}
-
-/// Entries so wide that the root does not hold 600 of them.
-fn wide_rows(make: &mut Make) -> Vec<Row> {
-    let row = |i: u64| {
-        let [run, length] = [0; 2].map(|_| (1 << 31) + make.below(1 << 30) as u32);
-        let id = (i << 53) + make.below(1 << 40);
-        (id, run, length, (1 << 63) + make.below(1 << 62))
-    };
-    (0..600).map(row).collect()
 }
 
 fn lookup(list: &mut List, archive: &[u8], id: u64) {
@@ -239,31 +183,6 @@ pub fn write(folder: &Path) -> std::io::Result<()> {
             }
         }
     });
-    list.until(300, |list| {
-        let bytes = some_bytes(make);
-        let rows = plain::directory_read(&mut Varints::new(&bytes), None).unwrap_or_default();
-        if rows.len() < 12 {
-            for row in &rows {
-                let last = row.0 + u64::from(row.1);
-                find_stored(list, &bytes, (last + make.below(2)).saturating_sub(1));
-            }
-            find_stored(list, &bytes, make.number());
-        }
-    });
-    for compression in 0..6 {
-        (0..8).for_each(|tile_type| new_header(&mut list, compression, tile_type));
-    }
-    list.until(100, |list| {
-        let n = make.below(12) as usize;
-        let rows = make.rows(n, TILES);
-        let length = data_length(&rows) + make.below(2);
-        build(list, &rows, length);
-    });
-    let before = list.lines;
-    for rows in [short_rows(make), wide_rows(make)] {
-        build(&mut list, &rows, data_length(&rows));
-    }
-    assert_eq!(list.lines, before + 2, "both large builds are in the list");
     assert!(
         list.inputs.len() <= LIST,
         "the program has no room for {} bytes",

@@ -1,6 +1,8 @@
 // Which entries a builder takes, and what it counts in them.
 //
 // Stores are lent as four slices, always in the order ids, runs, lengths, offsets.
+#![tactic(auto)]
+
 use refusal::Refusal;
 
 mod accepting;

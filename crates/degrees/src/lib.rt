@@ -1,4 +1,6 @@
 // Degrees as floats, and the whole numbers of ten-millionths that are stored for them.
+#![tactic(auto)]
+
 ghost use Rattle.std.specs.Prelude.{false, ◌≡◌, ◌≤◌, ◌^◌, min, T, pos};
 ghost use Rattle.std.specs.Float.Ieee as Ieee;
 ghost use Rattle.std.specs.Float.{fin};

@@ -1,6 +1,5 @@
 pub mod Counting
 pub mod Checks
-pub mod Plain
 pub mod Offsets
 pub mod Column
 pub mod Round

@@ -21,10 +21,10 @@ abbrev pub last_at : List Entry → ℕ → Option Entry
 last_at [] t = none
 last_at (e ∷ es) t = later (last_at es t) (cond (leb e.id t) (some e) none)
 
--- it counts if it is a pointer, or its run covers the target; an entry above the target never does
+-- it counts if it is a pointer, or its run covers the target
 abbrev pub hit : ℕ → Option Entry → Hit
 hit t none = absent
-hit t (some e) = cond (ltb t e.id) absent (cond (eqb e.run 0) (leaf e) (cond (ltb (t - e.id) e.run) (tile e) absent))
+hit t (some e) = cond (eqb e.run 0) (leaf e) (cond (ltb (t - e.id) e.run) (tile e) absent)
 
 unfoldable pub search : List Entry → ℕ → Hit
 search es t = hit t (last_at es t)

@@ -1,6 +1,8 @@
 // A directory: entries that say where the contents of tiles lie, and pointers to further directories.
 //
 // Stores are lent as four slices, always in the order ids, runs, lengths, offsets.
+#![tactic(auto)]
+
 use refusal::Refusal;
 use tile::TileId;
 
@@ -27,13 +29,6 @@ pub struct DirEntry {
     pub run_length: u32,
     pub length: u32,
     pub offset: Offset,
-}
-
-// An entry made of plain numbers, if its id is a tile's.
-#[derive(Drop)]
-pub enum EntryAnswer {
-    Entry(DirEntry),
-    Refused(Refusal),
 }
 
 // What an offset's code stands for.

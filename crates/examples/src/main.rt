@@ -1,7 +1,8 @@
-// Worked examples, run: those that were given with the rules, those of the specification as we recall it, and our own; the
-// headings say which are whose. stdin holds them, made from records.txt by make-stdin: one input after another, each with its
-// name. A line is printed for each, the name and what the core says; what must be printed stands in the file stdout, written
-// by hand from the format's rules.
+// The worked examples of the format, run. stdin holds them, made from records.txt by make-stdin: one input after another,
+// each with its name. A line is printed for each, the name and what the core says; what must be printed stands in the file
+// stdout, written by hand from the format's rules.
+#![tactic(auto)]
+
 ghost use Rattle.std.specs.Prelude.{◌≤◌, ◌<◌, length};
 
 use libc::STDIN_FILENO;

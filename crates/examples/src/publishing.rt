@@ -129,14 +129,12 @@ fn step(dest: &mut [u8]) -> u64 {
     i
 }
 
-// Tiles 0 and 1, the tile data, and the leaf offset in the header.
+// Tiles 0 and 1, and the tile data.
 fn contents(dest: &[u8]) {
     of_id(b'l', 0, dest, dest);
     of_id(b'l', 1, dest, dest);
     if dest.len() == 16391 {
         hex(&dest[16386..16391]);
-        text(b",");
-        hex(&dest[40..48]);
     }
 }
 

@@ -1,4 +1,4 @@
-// Directories measured, written from stores of three slots, and accepted.
+// Directories measured, written from stores of two slots, and accepted.
 use crate::print::{half, hex, number, refused, word};
 use acceptance::Accepted;
 use writer::Length;
@@ -31,14 +31,13 @@ fn first(
     }
 }
 
-// `W COUNT ROOM ID ID RUN RUN LENGTH LENGTH OFFSET OFFSET ID RUN LENGTH OFFSET`, the last four being a third entry, or left out
-// and 0: how long the directory is; how much is written into so many bytes that hold 9s; the bytes. A count of more than
-// three is short of room.
+// `W COUNT ROOM ID ID RUN RUN LENGTH LENGTH OFFSET OFFSET`: how long the directory is; how much is written into so many bytes
+// that hold 9s; the bytes. A count of more than two is short of room.
 pub(crate) fn write(p: &[u8]) {
-    let ids = [word(p, 20), word(p, 30), word(p, 100)];
-    let runs = [half(p, 40), half(p, 50), half(p, 110)];
-    let lengths = [half(p, 60), half(p, 70), half(p, 120)];
-    let offsets = [word(p, 80), word(p, 90), word(p, 130)];
+    let ids = [word(p, 20), word(p, 30)];
+    let runs = [half(p, 40), half(p, 50)];
+    let lengths = [half(p, 60), half(p, 70)];
+    let offsets = [word(p, 80), word(p, 90)];
     let mut out = [9u8; 18];
     first(
         word(p, 0) as usize,

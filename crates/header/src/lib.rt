@@ -1,4 +1,6 @@
 // The header of an archive: its first 127 bytes, read and written.
+#![tactic(auto)]
+
 ghost use Rattle.std.specs.Prelude.{◌++◌, ◌≡◌, drop, length};
 ghost use Rattle.refusal.specs.Out.{afterwards};
 ghost use Rattle.header.specs.Answers.{said_read, said_written};

@@ -5,4 +5,3 @@ pub mod Only
 pub mod Admitted
 pub mod Runs
 pub mod Stores
-pub mod Numbers

@@ -1,4 +1,6 @@
 // Publication: the byte stores that put an archive into a lent destination, done from a position on, as many as a budget allows.
+#![tactic(auto)]
+
 use header::Degrees;
 use refusal::Refusal;
 

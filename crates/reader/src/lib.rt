@@ -1,4 +1,7 @@
 // Lookup of a tile in an archive that is held in a slice.
+#![tactic(auto)]
+
+use directory::Offset;
 use refusal::Refusal;
 
 mod descent;
@@ -7,21 +10,17 @@ mod ranges;
 pub use descent::{lookup, lookup_coord};
 pub use ranges::{leaf_range, open, tile_range};
 
-// A place in the archive, counted from its start; an entry's `Offset` counts from its section's.
-#[derive(Drop)]
-pub struct ArchiveOffset(pub u64);
-
 // So many bytes from a place of the archive on.
 #[derive(Drop)]
 pub struct Located {
-    pub start: ArchiveOffset,
+    pub start: Offset,
     pub length: u32,
 }
 
 // A part of the archive, as the header gives it; it may lie outside.
 #[derive(Drop)]
 pub struct Section {
-    pub offset: ArchiveOffset,
+    pub offset: Offset,
     pub length: u64,
 }
 

@@ -4,8 +4,8 @@ ghost use Rattle.directory.specs.Answers.{entry_of};
 ghost use Rattle.reader.specs.Ranges.{opened, opened_in, range_in_lem};
 ghost use Rattle.reader.specs.Answers.{said_opened, said_ranged, section_of};
 
-use crate::{ArchiveOffset, Located, Opened, Ranged, Section, Sections};
-use directory::DirEntry;
+use crate::{Located, Opened, Ranged, Section, Sections};
+use directory::{DirEntry, Offset};
 use header::{Header, HeaderRead};
 use refusal::Refusal;
 
@@ -35,15 +35,15 @@ fn sections(h: Header, total: u64) -> Opened
     }
     Opened::Sections(Sections {
         root: Section {
-            offset: ArchiveOffset(start),
+            offset: Offset(start),
             length,
         },
         leaves: Section {
-            offset: ArchiveOffset(h.leaf_offset),
+            offset: Offset(h.leaf_offset),
             length: h.leaf_length,
         },
         tiles: Section {
-            offset: ArchiveOffset(h.data_offset),
+            offset: Offset(h.data_offset),
             length: h.data_length,
         },
     })
@@ -71,7 +71,7 @@ fn range_in(s: Section, total: u64, e: DirEntry) -> Ranged
         return Ranged::Refused(Refusal::RangeOutside);
     }
     Ranged::At(Located {
-        start: ArchiveOffset(base + offset),
+        start: Offset(base + offset),
         length: e.length,
     })
 }

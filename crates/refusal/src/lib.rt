@@ -1,4 +1,6 @@
 // Why a request is refused: one case for each number that users see.
+#![tactic(auto)]
+
 ghost use Rattle.std.specs.Prelude.{◌≡◌};
 ghost use Rattle.refusal.specs.Number.{number_of};
 

@@ -5,16 +5,16 @@ use header::{Header, HeaderRead, HeaderWritten};
 use reader::LookupAnswer;
 use tile::{CoordAnswer, IdAnswer, TileCoord, TileId};
 use varint::{Cursor, ReadU32, ReadU64};
-use writer::{Built, Length};
+use writer::Length;
 
 pub(crate) fn answer(kind: u8, s: &[u8]) {
     match kind {
         b'i' => id(s),
         b'c' => coord(s),
         b'h' => header(s),
-        b'n' => new_header(s),
         b'd' => directory(s),
-        b'f' | b's' | b'l' | b'b' => behind(kind, s),
+        b'f' => find(s),
+        b'l' => lookup(s),
         _ => text(b"no such kind"),
     }
     text(b"\n");
@@ -75,30 +75,6 @@ fn header(s: &[u8]) {
         },
         HeaderRead::Refused(r) => refused(r),
     }
-}
-
-// All but byte 97, the internal compression, in which a new header of ours differs from the Rust's.
-fn told_new(out: &[u8], a: HeaderWritten) {
-    match a {
-        HeaderWritten::Done => {
-            hex(out, 97);
-            text(b" ");
-            if out.len() == 127 {
-                hex(&out[98..127], 29);
-            }
-        }
-        HeaderWritten::Refused(r) => refused(r),
-    }
-}
-
-fn new_header(s: &[u8]) {
-    if s.len() < 2 {
-        return;
-    }
-    let mut out = [0u8; 127];
-    let h = Header::new(s[0], s[1]);
-    let a = h.write_to(&mut out);
-    told_new(&out, a);
 }
 
 fn entry(id: u64, run: u32, length: u32, offset: u64) {
@@ -169,6 +145,20 @@ fn told_found(a: Found) {
     }
 }
 
+// An id in ten bytes, as a varint and zeros, and a directory behind them.
+fn find(s: &[u8]) {
+    if s.len() < 10 {
+        return;
+    }
+    let ReadU64::Number(n, _end) = (Cursor { at: 0 }).read_u64(s) else {
+        return;
+    };
+    match TileId::new(n) {
+        IdAnswer::Id(i) => told_found(walk::find(&s[10..], i)),
+        IdAnswer::Refused(r) => refused(r),
+    }
+}
+
 fn told_lookup(a: LookupAnswer) {
     match a {
         LookupAnswer::Found(l) => {
@@ -180,85 +170,16 @@ fn told_lookup(a: LookupAnswer) {
     }
 }
 
-// In stores, which are filled by reading the directory.
-fn in_stores(s: &[u8], t: TileId) {
-    let mut ids = [0u64; 64];
-    let mut runs = [0u32; 64];
-    let mut lengths = [0u32; 64];
-    let mut offsets = [0u64; 64];
-    match directory::read(s, &mut ids, &mut runs, &mut lengths, &mut offsets) {
-        DirectoryRead::Entries(n, _used) => {
-            told_found(search::find_tile_id(n, &ids, &runs, &lengths, &offsets, t));
-        }
-        DirectoryRead::Refused(r) => refused(r),
-    }
-}
-
-fn sought(kind: u8, s: &[u8], t: TileId) {
-    match kind {
-        b'f' => told_found(walk::find(s, t)),
-        b's' => in_stores(s, t),
-        _ => told_lookup(reader::lookup(s, t)),
-    }
-}
-
-fn of_id(kind: u8, n: u64, s: &[u8]) {
-    match TileId::new(n) {
-        IdAnswer::Id(t) => sought(kind, s, t),
-        IdAnswer::Refused(r) => refused(r),
-    }
-}
-
-fn told_built(root: &[u8], leaves: &[u8], a: Built) {
-    match a {
-        Built::Done(z, _counts) => {
-            hex(root, z.root);
-            text(b" ");
-            hex(leaves, z.leaves);
-        }
-        Built::Refused(r) => refused(r),
-    }
-}
-
-fn build(n: usize, ids: &[u64], runs: &[u32], lengths: &[u32], offsets: &[u64], data_length: u64) {
-    let mut root = [0u8; 16257];
-    let mut leaves = [0u8; 20000];
-    let a = writer::build(
-        n,
-        ids,
-        runs,
-        lengths,
-        offsets,
-        data_length,
-        &mut root,
-        &mut leaves,
-    );
-    told_built(&root, &leaves, a);
-}
-
-// Root and leaves of a directory's entries.
-fn rebuild(s: &[u8], data_length: u64) {
-    let mut ids = [0u64; 4200];
-    let mut runs = [0u32; 4200];
-    let mut lengths = [0u32; 4200];
-    let mut offsets = [0u64; 4200];
-    match directory::read(s, &mut ids, &mut runs, &mut lengths, &mut offsets) {
-        DirectoryRead::Entries(n, _used) => build(n, &ids, &runs, &lengths, &offsets, data_length),
-        DirectoryRead::Refused(r) => refused(r),
-    }
-}
-
-// A number in ten bytes, as a varint and zeros, and a directory or an archive behind them.
-fn behind(kind: u8, s: &[u8]) {
+// The same with an archive.
+fn lookup(s: &[u8]) {
     if s.len() < 10 {
         return;
     }
     let ReadU64::Number(n, _end) = (Cursor { at: 0 }).read_u64(s) else {
         return;
     };
-    if kind == b'b' {
-        rebuild(&s[10..], n);
-    } else {
-        of_id(kind, n, &s[10..]);
+    match TileId::new(n) {
+        IdAnswer::Id(i) => told_lookup(reader::lookup(&s[10..], i)),
+        IdAnswer::Refused(r) => refused(r),
     }
 }

@@ -1,5 +1,7 @@
 // Replays a list: stdin has the inputs, and the file stdout what the Rust answered to each, a line for each input. README.md
 // says how both were made.
+#![tactic(auto)]
+
 ghost use Rattle.std.specs.Prelude.{◌≤◌, ◌<◌, length};
 
 use libc::STDIN_FILENO;

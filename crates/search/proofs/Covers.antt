@@ -7,7 +7,7 @@ use mathlib.Core.List.{List, [], ◌∷◌, Memᴰ}
 use mathlib.Core.Option.{Option, none, some}
 use mathlib.Core.Logic.{◌⊎◌, inl, inr}
 use native.Mathlib.Omega.{arith}
-use borrow.Author.Tests.{lt-ltb, le-leb, le-ltb, lt-leb, ne_eqb, leb-true, ltb-true}
+use borrow.Author.Tests.{lt-ltb, le-leb, lt-leb, ne_eqb, leb-true, ltb-true}
 use lib.Dec.{leb, ltb}
 use Rattle.tile.specs.Answers.{max_id}
 use Rattle.directory.specs.Entries.{Entry, Valid, after}
@@ -65,7 +65,7 @@ hit-covering : (t : ℕ) (e : Entry) → Covers e t → hit t (some e) ≡ tile 
 hit-covering t e c =
     let u : t < e.id + e.run = c.upto in
     let f : e.id ≤ t = c.from in
-    rw (le-ltb t e.id f, ne_eqb e.run 0 (λ z. omega arith), lt-ltb (t - e.id) e.run (omega arith))
+    rw (ne_eqb e.run 0 (λ z. omega arith), lt-ltb (t - e.id) e.run (omega arith))
 
 pub search-covering : (lo t : ℕ) (es : List Entry) (e : Entry) → Valid lo es → Memᴰ e es → Covers e t → search es t ≡ tile e
 unfolding search
@@ -83,8 +83,8 @@ answered es t a = go (last_at es t) refl
     there : (e : Entry) → last_at es t ≡ some e → Memᴰ e es × (e.id ≤ t) → 0 < e.run → (b : Bool) → ltb (t - e.id) e.run ≡ b → Answered es t
     there e p q h true r =
         let l : t - e.id < e.run = ltb-true _ _ r in
-        one_covers e (rw (p, le-ltb t e.id q.1, ne_eqb e.run 0 (λ z. omega arith), r)) q.0 (record { from = q.1; upto = omega arith })
-    there e p q h false r = none-covers (rw (p, le-ltb t e.id q.1, ne_eqb e.run 0 (λ z. omega arith), r))
+        one_covers e (rw (p, ne_eqb e.run 0 (λ z. omega arith), r)) q.0 (record { from = q.1; upto = omega arith })
+    there e p q h false r = none-covers (rw (p, ne_eqb e.run 0 (λ z. omega arith), r))
 
     at_last : (e : Entry) → last_at es t ≡ some e → Memᴰ e es × (e.id ≤ t) → Answered es t
     at_last e p q = there e p q (all-at es e (λ x y s. λ h. rw s h) a q.0) (ltb (t - e.id) e.run) refl

@@ -8,8 +8,6 @@ use lib.ListN.{get_or}
 use Rattle.refusal.specs.Out.{Out, ok, bad, ◌>>=◌}
 use Rattle.refusal.proofs.OutLaws.{need-bind}
 use Rattle.tile.specs.Answers.{max_id}
-use Rattle.directory.specs.Answers.{new_entry}
-use Rattle.directory.specs.Entries.{Entry}
 use Rattle.directory.specs.Search.{absent, counting, find_stored, search, stored}
 use Rattle.directory.specs.Stores.{checked_all}
 use Rattle.directory.proofs.Checks.{check_sound}
@@ -17,7 +15,7 @@ use Rattle.directory.proofs.Counting.{counting-sound, in-each}
 use Rattle.directory.proofs.Slots.{check-all}
 use Rattle.search.specs.Answers.{answering}
 use Rattle.search.specs.Halving.{Between, Holding}
-use Rattle.search.proofs.Hits.{found-made, never-unmade}
+use Rattle.search.proofs.Hits.{answered}
 use Rattle.search.proofs.Last.{last_none, last_some}
 
 -- ---- the entries, searched
@@ -27,16 +25,9 @@ module _ (n : ℕ) (a b l o : List ℕ) (t : ℕ) (h : Holding n a b l o) {r : �
   unfolding search
   none_found z = rw (last_none n a b l o t r h w z)
 
-  module _ (p : 0 < r) (near : t ≤ max_id) where
-    abbrev made : Out Entry
-    made = new_entry (get_or a (r - 1) 0) (get_or b (r - 1) 0) (get_or l (r - 1) 0) (get_or o (r - 1) 0)
-
-    pub one_found : {e : Entry} → ok e ≡ made → answering e t ≡ ok (search (stored n a b l o) t)
-    unfolding search
-    one_found q = found-made _ _ _ _ t (w.below p) near q ∙ (rw (last_some n a b l o t r h w p))
-
-    pub never-refused : {q : ℕ} → bad q ≡ made → bad q ≡ ok (search (stored n a b l o) t)
-    never-refused q = never-unmade _ _ _ _ t (w.below p) near q
+  pub one_found : 0 < r → t ≤ max_id → answering (get_or a (r - 1) 0) (get_or b (r - 1) 0) (get_or l (r - 1) 0) (get_or o (r - 1) 0) t ≡ ok (search (stored n a b l o) t)
+  unfolding search
+  one_found p near = answered _ _ _ _ t (omega (arith, w.below p)) ∙ (rw (last_some n a b l o t r h w p))
 
 -- ---- the whole
 

@@ -1,58 +1,45 @@
 -- The answer that an entry is. Assumes nothing.
-use Prim.Native.Nat.{ℕ, ◌-◌, ◌≤◌, ◌<◌}
-use mathlib.Core.Path.{◌≡◌, ap, sym, ◌∙◌}
+use Prim.Native.Nat.{ℕ, ◌+◌, ◌-◌, ◌≤◌, ◌<◌}
+use mathlib.Core.Path.{◌≡◌, sym}
 use mathlib.Core.Option.{some}
 use native.Mathlib.Omega.{arith}
-use borrow.Author.Tests.{eq-eqb, le-leb, le-ltb, lt-leb, lt-ltb, ne_eqb}
-use Rattle.refusal.specs.Out.{Out, ok, bad}
-use Rattle.refusal.proofs.OutLaws.{ok-is}
-use Rattle.tile.specs.Answers.{max_id}
-use Rattle.directory.specs.Entries.{Entry, entry}
-use Rattle.directory.specs.Answers.{new_entry}
+use borrow.Author.Tests.{eq-eqb, le-leb, le-ltb, leb-true, lt-ltb, ne_eqb}
+use Rattle.refusal.specs.Out.{ok, bad, ◌>>=◌}
+use Rattle.refusal.proofs.OutLaws.{need-bind, need-ok, ok-is}
+use Rattle.tile.specs.Answers.{is_id, max_id, new_id}
+use Rattle.directory.specs.Entries.{entry}
 use Rattle.directory.specs.Search.{absent, hit, leaf, tile}
-use Rattle.directory.proofs.Plain.{made}
 use Rattle.search.specs.Answers.{answering}
 
-module _ (e : Entry) (t : ℕ) where
-  pub no_target : max_id < t → bad 7 ≡ answering e t
+-- a number that is a tile's id
+pub is-id : (id : ℕ) {i : ℕ} → ok i ≡ new_id id → id ≤ max_id
+unfolding new_id
+is-id id {i} e = leb-true id max_id (need-ok (is_id id) 7 (ok id) i (sym e)).0
+
+module _ (id run len off t : ℕ) where
+  named : answering id run len off t ≡ new_id id >>= λ _. ok (hit t (some (entry id run len off)))
+  unfolding answering new_id
+  named = sym (need-bind (is_id id) 7 (ok id) (λ _. ok (hit t (some (entry id run len off)))))
+
+  -- an id that is not above the largest
+  pub answered : id ≤ max_id → answering id run len off t ≡ ok (hit t (some (entry id run len off)))
   unfolding answering
-  no_target h = rw (lt-leb t max_id h)
+  answered h = rw (le-leb id max_id h)
 
-  module _ (near : t ≤ max_id) where
-    pub no-id : max_id < e.id → bad 13 ≡ answering e t
-    unfolding answering
-    no-id h = rw (le-leb t max_id near, lt-leb e.id max_id h)
+  pub no-id : {q : ℕ} → bad q ≡ new_id id → bad q ≡ answering id run len off t
+  no-id e = rw (named, ← e)
 
-    pub answered : e.id ≤ max_id → answering e t ≡ ok (hit t (some e))
-    unfolding answering
-    answered h = rw (le-leb t max_id near, le-leb e.id max_id h)
+  module _ {i : ℕ} (e : ok i ≡ new_id id) where
+    same : i ≡ id
+    unfolding new_id
+    same = sym (ok-is (need-ok (is_id id) 7 (ok id) i (sym e)).1)
 
-    pub as-above : e.id ≤ max_id → t < e.id → ok absent ≡ answering e t
-    as-above top h = rw (answered top, lt-ltb t e.id h)
+    pub as-leaf : run ≡ 0 → ok (leaf (entry i run len off)) ≡ answering id run len off t
+    as-leaf z = rw (named, ← e, same, eq-eqb run 0 z)
 
-    module _ (from : e.id ≤ t) where
-      near-id : e.id ≤ max_id
-      near-id = omega arith
+    module _ (covers : run ≡ 0 → ⊥) where
+      pub as-tile : t < id + run → ok (tile (entry i run len off)) ≡ answering id run len off t
+      as-tile h = rw (named, ← e, same, ne_eqb run 0 covers, lt-ltb (t - id) run (omega arith))
 
-      pub as-leaf : e.run ≡ 0 → ok (leaf e) ≡ answering e t
-      as-leaf z = rw (answered near-id, le-ltb t e.id from, eq-eqb e.run 0 z)
-
-      module _ (covers : e.run ≡ 0 → ⊥) where
-        pub as-tile : t - e.id < e.run → ok (tile e) ≡ answering e t
-        as-tile h = rw (answered near-id, le-ltb t e.id from, ne_eqb e.run 0 covers, lt-ltb (t - e.id) e.run h)
-
-        pub as-absent : e.run ≤ t - e.id → ok absent ≡ answering e t
-        as-absent h = rw (answered near-id, le-ltb t e.id from, ne_eqb e.run 0 covers, le-ltb (t - e.id) e.run h)
-
--- ---- an entry made of plain numbers, whose id is at most the target
-
-module _ (id run len off t : ℕ) (from : id ≤ t) (near : t ≤ max_id) where
-  pub found-made : {e : Entry} → ok e ≡ new_entry id run len off → answering e t ≡ ok (hit t (some (entry id run len off)))
-  found-made {e} p =
-      let s : e ≡ entry id run len off = ok-is (p ∙ made id run len off (omega arith)) in
-      ap (λ (x : Entry). answering x t) s ∙ answered (entry id run len off) t near (omega arith)
-
-  pub never-unmade : {A : Type 0} {y : Out A} {q : ℕ} → bad q ≡ new_entry id run len off → bad q ≡ y
-  never-unmade p =
-      let s = p ∙ made id run len off (omega arith) in
-      let z : ◌≡◌ {A = ℕ} 0 1 = cc in absurd (omega arith)
+      pub as-absent : id + run ≤ t → ok absent ≡ answering id run len off t
+      as-absent h = rw (named, ← e, ne_eqb run 0 covers, le-ltb (t - id) run (omega arith))

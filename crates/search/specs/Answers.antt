@@ -3,9 +3,8 @@ use Rattle.std.specs.Prelude.{ℕ}
 use Rattle.std.proofs.Math.Option.{some}
 use Rattle.refusal.specs.Out.{Out, ok, need}
 use Rattle.tile.specs.Answers.{is_id}
-use Rattle.directory.specs.Entries.{Entry}
+use Rattle.directory.specs.Entries.{entry}
 use Rattle.directory.specs.Search.{Hit, hit}
 
--- 7 for a target, then 13 for an entry, whose id is no tile's
-unfoldable pub answering : Entry → ℕ → Out Hit
-answering e t = need (is_id t) 7 (need (is_id e.id) 13 (ok (hit t (some e))))
+unfoldable pub answering : ℕ → ℕ → ℕ → ℕ → ℕ → Out Hit
+answering id run len off t = need (is_id id) 7 (ok (hit t (some (entry id run len off))))

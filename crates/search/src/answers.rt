@@ -1,32 +1,33 @@
 // An entry, as it answers a target.
 ghost use Rattle.std.specs.Prelude.{◌≡◌};
-ghost use Rattle.directory.specs.Answers.{entry_of, said_found};
+ghost use Rattle.directory.specs.Answers.{said_found};
 ghost use Rattle.search.specs.Answers.{answering};
 
-use directory::{DirEntry, Found, wide};
-use refusal::Refusal;
-use tile::TileId;
+use directory::{DirEntry, Found, Offset, wide};
+use tile::{IdAnswer, TileId};
 
-// A pointer leads to every target that is not below it, a tile's entry to those that its run covers.
-pub fn answer(e: DirEntry, target: TileId) -> Found
-    ensures { said_found result ≡ answering (entry_of e) target.0 }
+// The entry is the last whose id is at most the target: a search sees to that, so it is not tested here.
+pub fn answer(id: u64, run: u32, length: u32, offset: Offset, target: u64) -> Found
+    ensures { said_found result ≡ answering id run length offset.0 target }
 {
-    let t = target.value();
-    let id = e.tile_id.value();
-    if TileId::MAX_TILE_ID < t {
-        return Found::Refused(Refusal::InvalidTileId);
+    match TileId::new(id) {
+        IdAnswer::Id(tile_id) => {
+            let e = DirEntry {
+                tile_id,
+                run_length: run,
+                length,
+                offset,
+            };
+            if run == 0 {
+                return Found::Leaf(e);
+            }
+            if target < id + wide(run) {
+                return Found::Tile(e);
+            }
+            return Found::Absent;
+        }
+        IdAnswer::Refused(r) => {
+            return Found::Refused(r);
+        }
     }
-    if TileId::MAX_TILE_ID < id {
-        return Found::Refused(Refusal::EntryIdTooLarge);
-    }
-    if t < id {
-        return Found::Absent;
-    }
-    if e.run_length == 0 {
-        return Found::Leaf(e);
-    }
-    if t - id < wide(e.run_length) {
-        return Found::Tile(e);
-    }
-    Found::Absent
 }

@@ -1,4 +1,6 @@
 // Search in a directory's stores, and what the entry that it finds answers.
+#![tactic(auto)]
+
 mod answers;
 mod stores;
 

@@ -3,8 +3,6 @@ ghost use Rattle.std.specs.Prelude.{◌≡◌, cond, suc, ◌+◌, ◌*◌, ◌^
 ghost use Rattle.tile.specs.Tile.{index, place, placed};
 ghost use Rattle.tile.specs.Answers.{is_coord_lem};
 
-use crate::TileCoord;
-
 fn power(n: u32) -> u32
     requires { n < 32 }
     ensures { result ≡ 2 ^ n }
@@ -15,7 +13,7 @@ fn power(n: u32) -> u32
 pub(crate) fn is_coord(z: u8, x: u32, y: u32) -> bool
     ensures { result ≡ is_coord_lem z x y }
 {
-    if TileCoord::MAX_ZOOM < z {
+    if 31 < z {
         return false;
     }
     let side = power(z as u32);

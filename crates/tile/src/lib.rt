@@ -1,4 +1,6 @@
 // Tile ids and coordinates: every tile of every zoom has one number, along the Hilbert curve of its zoom.
+#![tactic(auto)]
+
 ghost use Rattle.std.specs.Prelude.{◌≡◌};
 ghost use Rattle.tile.specs.Answers.{new_coord, new_id, said_coord, said_id, said_zoom, to_id, to_coord_lem, to_zoom};
 

@@ -1,4 +1,6 @@
 // Varints: seven bits a byte, lowest group first; the top bit says that another byte follows.
+#![tactic(auto)]
+
 ghost use Rattle.std.specs.Prelude.{◌≡◌, ◌+◌, ◌^◌, ◌≤◌, ◌<◌, length};
 ghost use Rattle.std.proofs.lemmas.List.Edits.{sets};
 ghost use Rattle.varint.specs.Varint.{wide, narrow, limit, read_at, put};

@@ -1,4 +1,6 @@
 // A directory's bytes walked row by row, and searched so, with no store.
+#![tactic(auto)]
+
 mod cursors;
 mod sweep;
 

@@ -7,7 +7,7 @@ ghost use Rattle.directory.specs.Search.{find_in, hit};
 ghost use Rattle.walk.specs.Walk.{kept_if, row_entry, sweep_in};
 
 use crate::cursors::{Columns, Next, Opened, Row};
-use directory::{Checked, DirEntry, EntryAnswer, Found, Offset, check_entry};
+use directory::{Checked, Found, Offset, check_entry};
 use refusal::Refusal;
 use search::answer;
 use tile::TileId;
@@ -18,14 +18,13 @@ fn hit_of(target: TileId, have: bool, row: Row) -> Found
     ensures { said_found result ≡ ok (hit target.0 (kept_if have (row_entry row))) }
 {
     if have {
-        match DirEntry::new(row.id, row.run_length, row.length, row.offset) {
-            EntryAnswer::Entry(e) => {
-                return answer(e, target);
-            }
-            EntryAnswer::Refused(r) => {
-                return Found::Refused(r);
-            }
-        }
+        return answer(
+            row.id,
+            row.run_length,
+            row.length,
+            row.offset,
+            target.value(),
+        );
     }
     Found::Absent
 }

@@ -1,5 +1,5 @@
 -- The leaf size grows until the root fits; it does once there is one pointer, so it ends, and the root that is built fits. Assumes nothing.
-use Prim.Native.Nat.{ℕ, zero, suc, ◌+◌, ◌/◌, ◌≤◌, ◌<◌}
+use Prim.Native.Nat.{ℕ, zero, suc, ◌+◌, ◌/◌, ◌≤◌, ◌<◌, max}
 use mathlib.Core.Path.{◌≡◌, refl, ap, sym, ◌∙◌}
 use mathlib.Core.Bool.{Bool, true, false, cond}
 use mathlib.Core.List.{List, [], ◌∷◌}
@@ -10,8 +10,8 @@ use lib.ListN.{drop_of_length-le, length}
 use Rattle.varint.proofs.Cases.{by-lt}
 use Rattle.directory.specs.Entries.{Entry}
 use Rattle.directory.specs.Encode.{encode}
-use Rattle.writer.specs.Build.{build, chunks, first_size_lem, grown, leaf_size, pointers, root_room, with_leaves}
-use Rattle.writer.specs.Cuts.{shaped}
+use Rattle.writer.specs.Build.{build, chunks, leaf_size, pointers, root_room, with_leaves}
+use Rattle.writer.specs.Cuts.{first_size_lem, shaped}
 use Rattle.writer.proofs.Chunks.{chunks-nil}
 use Rattle.writer.proofs.Lengths.{encode-size}
 
@@ -30,7 +30,7 @@ pub grown-here : (f k : ℕ) (es : List Entry) → root_length_lem k es ≤ root
 grown-here zero k es h = refl
 grown-here (suc f) k es h = rw (le-leb (root_length_lem k es) root_room h)
 
-pub grown-more : (f k : ℕ) (es : List Entry) → root_room < root_length_lem k es → leaf_size (suc f) k es ≡ leaf_size f (grown k) es
+grown-more : (f k : ℕ) (es : List Entry) → root_room < root_length_lem k es → leaf_size (suc f) k es ≡ leaf_size f (k + k / 5) es
 grown-more f k es h = rw (lt-leb (root_length_lem k es) root_room h)
 
 -- any bound that is large enough gives the same size
@@ -38,28 +38,28 @@ grown-fuel : (f g k : ℕ) (es : List Entry) → 5 ≤ k → length es ≤ f + k
 grown-fuel zero g k es h p q = sym (grown-here g k es (one-fits k es (omega arith)))
 grown-fuel (suc f) zero k es h p q = grown-here (suc f) k es (one-fits k es (omega arith))
 grown-fuel (suc f) (suc g) k es h p q =
-    ap (λ (x : ℕ). cond (leb (root_length_lem k es) root_room) k x) (grown-fuel f g (grown k) es (omega arith) (omega arith) (omega arith))
+    ap (λ (x : ℕ). cond (leb (root_length_lem k es) root_room) k x) (grown-fuel f g (k + k / 5) es (omega arith) (omega arith) (omega arith))
 
 -- where the root does not fit there are more entries than one leaf takes, and the size grows
-pub grown-on : (k : ℕ) (es : List Entry) → 5 ≤ k → root_room < root_length_lem k es → (k < length es) × (leaf_size (length es) k es ≡ leaf_size (length es) (grown k) es)
+pub grown-on : (k : ℕ) (es : List Entry) → 5 ≤ k → root_room < root_length_lem k es → (k < length es) × (leaf_size (length es) k es ≡ leaf_size (length es) (k + k / 5) es)
 grown-on k es h s =
     let more : k < length es = by-lt k (length es) (λ l. l) (λ l. absurd (omega (arith, one-fits k es l))) in
     (more, go (length es) (omega arith) more)
   where
-    go : (n : ℕ) → length es ≤ n → k < n → leaf_size n k es ≡ leaf_size n (grown k) es
+    go : (n : ℕ) → length es ≤ n → k < n → leaf_size n k es ≡ leaf_size n (k + k / 5) es
     go zero l m = absurd (omega arith)
-    go (suc n) l m = grown-more n k es s ∙ grown-fuel n (suc n) (grown k) es (omega arith) (omega arith) (omega arith)
+    go (suc n) l m = grown-more n k es s ∙ grown-fuel n (suc n) (k + k / 5) es (omega arith) (omega arith) (omega arith)
 
 pub size-from : (f k : ℕ) (es : List Entry) → k ≤ leaf_size f k es
 size-from zero k es = omega arith
 size-from (suc f) k es =
-    by-lt root_room (root_length_lem k es) (λ l. rw (grown-more f k es l) (omega (arith, size-from f (grown k) es))) (λ l. rw (grown-here (suc f) k es l) (omega arith))
+    by-lt root_room (root_length_lem k es) (λ l. rw (grown-more f k es l) (omega (arith, size-from f (k + k / 5) es))) (λ l. rw (grown-here (suc f) k es l) (omega arith))
 
 size_fits : (f k : ℕ) (es : List Entry) → 5 ≤ k → length es ≤ f + k → root_length_lem (leaf_size f k es) es ≤ root_room
 size_fits zero k es h l = one-fits k es (omega arith)
 size_fits (suc f) k es h l =
     by-lt root_room (root_length_lem k es)
-    (λ m. rw (grown-more f k es m) (size_fits f (grown k) es (omega arith) (omega arith)))
+    (λ m. rw (grown-more f k es m) (size_fits f (k + k / 5) es (omega arith) (omega arith)))
     (λ m. rw (grown-here (suc f) k es m) m)
 
 -- ---- which of the two shapes
@@ -89,11 +89,11 @@ module _ (es : List Entry) where
   build-flat h k = rw (lt-ltb (length es) 16384 h, le-leb (length (encode es)) root_room k)
 
   pub build-many : 16384 ≤ length es → build es ≡ with_leaves (leaf_of es) es
-  unfolding build
+  unfolding build first_size_lem
   build-many h = rw (le-ltb (length es) 16384 h)
 
   pub build-large : length es < 16384 → root_room < length (encode es) → build es ≡ with_leaves (leaf_of es) es
-  unfolding build
+  unfolding build first_size_lem
   build-large h k = rw (lt-ltb (length es) 16384 h, lt-leb (length (encode es)) root_room k)
 
 -- what is built is one of two: a root only, or leaves of some size and a root of pointers

@@ -1,5 +1,5 @@
 -- What is chosen and planned for a range of entries. Assumes nothing.
-use Prim.Native.Nat.{ℕ, zero, suc, ◌≤◌, ◌<◌}
+use Prim.Native.Nat.{ℕ, zero, suc, ◌+◌, ◌/◌, ◌≤◌, ◌<◌}
 use mathlib.Core.Path.{◌≡◌, refl, ap, ap₂, sym, ◌∙◌}
 use mathlib.Core.List.{List, [], ◌∷◌}
 use native.Mathlib.Omega.{arith}
@@ -7,9 +7,9 @@ use lib.ListN.{length}
 use Rattle.directory.specs.Entries.{Entry}
 use Rattle.directory.specs.Encode.{encode}
 use Rattle.writer.specs.Answers.{sizes_of}
-use Rattle.writer.specs.Build.{Directories, build, first_size_lem, grown, leaf_size, leaves_of, pointers, root_room, with_leaves}
+use Rattle.writer.specs.Build.{Directories, build, leaf_size, leaves_of, pointers, root_room, with_leaves}
 use Rattle.writer.specs.Cells.{part}
-use Rattle.writer.specs.Cuts.{Measured, Planned, cuts, shaped}
+use Rattle.writer.specs.Cuts.{Measured, Planned, cuts, first_size_lem, shaped}
 use Rattle.writer.specs.declared.leaves.Plan.{Plan}
 use Rattle.writer.specs.declared.Sizes.{Sizes}
 use Rattle.writer.proofs.Cut.{cuts-all}
@@ -31,7 +31,7 @@ module _ (es : List Entry) (n : ℕ) (m : n ≤ length es) where
     pub chosen : root ≤ root_room → leaf_size n k (part 0 n es) ≡ k
     chosen h = grown-here n k (part 0 n es) (omega (arith, root_is))
 
-    pub grows : 5 ≤ k → root_room < root → (k < n) × (leaf_size n k (part 0 n es) ≡ leaf_size n (grown k) (part 0 n es))
+    pub grows : 5 ≤ k → root_room < root → (k < n) × (leaf_size n k (part 0 n es) ≡ leaf_size n (k + k / 5) (part 0 n es))
     grows h l = rw count-is at (grown-on k (part 0 n es) h (omega (arith, root_is)))
 
   -- the leaves of the size that is found

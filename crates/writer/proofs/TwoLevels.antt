@@ -5,7 +5,7 @@ use mathlib.Core.Bool.{Bool, true, false, cond}
 use mathlib.Core.List.{List, [], ◌∷◌, ◌++◌, append_assoc, append-nil}
 use mathlib.Core.Option.{Option, none, some}
 use native.Mathlib.Omega.{arith}
-use borrow.Author.Tests.{le-leb, le-ltb, leb-false, leb-true}
+use borrow.Author.Tests.{le-leb, leb-false, leb-true}
 use lib.Dec.{leb}
 use lib.ListN.{drop, length, length-append, length-drop, length-take, take}
 use lib.Seq.{drop-append_seam, take-append_seam}
@@ -14,7 +14,7 @@ use Rattle.directory.specs.Entries.{Entry, Valid, after, entry}
 use Rattle.directory.specs.Decode.{decode}
 use Rattle.directory.specs.Encode.{encode}
 use Rattle.directory.specs.Search.{absent, hit, last_at, later, leaf, search}
-use Rattle.search.proofs.Covers.{last-is, none_below}
+use Rattle.search.proofs.Covers.{none_below}
 use Rattle.writer.specs.Stock.{Stock}
 use Rattle.writer.specs.Build.{Directories, build, chunks, leaves_of, pointers, with_leaves}
 use Rattle.writer.specs.Cuts.{shaped}
@@ -111,7 +111,7 @@ module _ (es : List Entry) (s : Stock es) (k t : ℕ) (h : 0 < k) where
       go (below r w) = no-leaf _ read-root (rw r) (rw (rw again at w))
       go (within p c y r z f b l q w) =
           let n : length (encode c) ≡ p.len = sym (ap length b) ∙ length-take p.len (drop p.off (with_leaves k es).leaves) ∙ rw length-drop (omega arith) in
-          in_leaf _ read-root p (rw (r, le-ltb t p.id (last-is t (pointers 0 (chunks (length es) k es)) p r).1, z)) f c (rw (b, ← n) (read_all c l.stock)) (rw (q, rw again at w))
+          in_leaf _ read-root p (rw (r, z)) f c (rw (b, ← n) (read_all c l.stock)) (rw (q, rw again at w))
 
 pub built-finds : (es : List Entry) → Stock es → (t : ℕ) → Finds es (build es) t
 built-finds es s t = go (shape es)

@@ -37,21 +37,13 @@ with_leaves k es = record { root = encode (pointers 0 (chunks (length es) k es))
 abbrev pub root_room : ℕ
 root_room = 16257
 
--- the size that is tried first
-unfoldable pub first_size_lem : ℕ → ℕ
-first_size_lem n = max (n / 3500) 4096
-
--- and the one after k: a fifth more
-abbrev pub grown : ℕ → ℕ
-grown k = k + k / 5
-
--- the first size from k on whose root fits; the first number bounds how many are tried
+-- the first size from k on, growing by a fifth, whose root fits; the first number bounds how many are tried
 abbrev pub leaf_size : ℕ → ℕ → List Entry → ℕ
 leaf_size zero k es = k
-leaf_size (suc f) k es = cond (leb (length (with_leaves k es).root) root_room) k (leaf_size f (grown k) es)
+leaf_size (suc f) k es = cond (leb (length (with_leaves k es).root) root_room) k (leaf_size f (k + k / 5) es)
 
 unfoldable pub build : List Entry → Directories
 build es =
     cond (ltb (length es) 16384 && leb (length (encode es)) root_room)
     (record { root = encode es; leaves = [] })
-    (with_leaves (leaf_size (length es) (first_size_lem (length es)) es) es)
+    (with_leaves (leaf_size (length es) (max (length es / 3500) 4096) es) es)

@@ -1,5 +1,5 @@
 -- Entries cut into leaves: what the contracts of the builder's private functions cite. Assumes nothing.
-use Rattle.std.specs.Prelude.{ℕ, zero, suc, ◌+◌, ◌-◌, ◌<◌, min, ◌≡◌, List, [], ◌∷◌, length, replicate}
+use Rattle.std.specs.Prelude.{ℕ, zero, suc, ◌+◌, ◌-◌, ◌/◌, ◌<◌, max, min, ◌≡◌, List, [], ◌∷◌, length, replicate}
 use Rattle.directory.specs.Entries.{Entry}
 use Rattle.directory.specs.Encode.{encode}
 use Rattle.writer.specs.Build.{Directories, build, chunks, first_id, leaf_size, leaves_of, pointers, with_leaves}
@@ -34,6 +34,10 @@ leaf_lengths (c ∷ cs) = length (encode c) ∷ leaf_lengths cs
 unfoldable pub leaf_codes : ℕ → List ℕ
 leaf_codes zero = []
 leaf_codes (suc n) = 1 ∷ replicate n 0
+
+-- the leaf size that is tried first
+unfoldable pub first_size_lem : ℕ → ℕ
+first_size_lem n = max (n / 3500) 4096
 
 -- how many leaves of a size there are, and how large the root and the leaves are
 pub record Measured (n : ℕ) (es : List Entry) (k : ℕ) (p : Plan) : Type 0 where

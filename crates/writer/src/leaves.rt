@@ -5,9 +5,9 @@ ghost use Rattle.varint.specs.Varint.{narrow, wide};
 ghost use Rattle.directory.specs.Columns.{entries};
 ghost use Rattle.directory.specs.Encode.{encode, put_all};
 ghost use Rattle.writer.specs.Stock.{Stock};
-ghost use Rattle.writer.specs.Build.{first_size_lem, leaf_size, leaves_of, pointers};
+ghost use Rattle.writer.specs.Build.{leaf_size, leaves_of, pointers};
 ghost use Rattle.writer.specs.Cells.{Rising, Wrote, deltas, part};
-ghost use Rattle.writer.specs.Cuts.{Measured, cuts, every, leaf_codes, leaf_end_lem, leaf_lengths};
+ghost use Rattle.writer.specs.Cuts.{Measured, cuts, every, first_size_lem, leaf_codes, leaf_end_lem, leaf_lengths};
 
 use crate::Sizes;
 use crate::columns::{put_entries, put_number};

@@ -1,6 +1,8 @@
 // Directories written, and root and leaves made from sorted entries.
 //
 // Stores are lent as four slices, always in the order ids, runs, lengths, offsets.
+#![tactic(auto)]
+
 use acceptance::Counts;
 use refusal::Refusal;
 
