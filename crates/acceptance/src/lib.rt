@@ -10,13 +10,13 @@ mod accepting;
 pub use accepting::accept;
 
 // What the builder counts, for the header.
-#[derive(Drop)]
+#[derive(Clone, Copy)]
 pub struct Counts {
     pub n_tile_entries: u64,
     pub n_addressed_tiles: u64,
 }
 
-#[derive(Drop)]
+#[derive(Clone, Copy)]
 pub enum Accepted {
     Counts(Counts),
     Refused(Refusal),

@@ -12,7 +12,7 @@ use refusal::Refusal;
 use varint::{Cursor, ReadU32, ReadU64};
 
 // Where a column ends. The next one begins there, or is refused as this one was.
-#[derive(Drop)]
+#[derive(Clone, Copy)]
 pub(crate) enum Column {
     Done(Cursor),
     Refused(Refusal),

@@ -19,11 +19,11 @@ pub use stores::{check_count, check_stores};
 pub const MAX_ENTRIES: usize = 16777216;
 
 // A place in the tile data, or in the section of leaves.
-#[derive(Drop)]
+#[derive(Clone, Copy)]
 pub struct Offset(pub u64);
 
 // A run of tiles that share their contents; a run of 0 is a pointer to a leaf.
-#[derive(Drop)]
+#[derive(Clone, Copy)]
 pub struct DirEntry {
     pub tile_id: TileId,
     pub run_length: u32,
@@ -32,28 +32,28 @@ pub struct DirEntry {
 }
 
 // What an offset's code stands for.
-#[derive(Drop)]
+#[derive(Clone, Copy)]
 pub enum OffsetAnswer {
     At(Offset),
     Refused(Refusal),
 }
 
 // What a check of one entry finds: the least id that may follow.
-#[derive(Drop)]
+#[derive(Clone, Copy)]
 pub enum Checked {
     Next(u64),
     Refused(Refusal),
 }
 
 // What reading into stores finds: how many entries, and how many bytes they took.
-#[derive(Drop)]
+#[derive(Clone, Copy)]
 pub enum DirectoryRead {
     Entries(usize, usize),
     Refused(Refusal),
 }
 
 // What a search finds.
-#[derive(Drop)]
+#[derive(Clone, Copy)]
 pub enum Found {
     Tile(DirEntry),
     Leaf(DirEntry),

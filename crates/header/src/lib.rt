@@ -25,7 +25,7 @@ pub const MAX_COMPRESSION: u8 = 4;
 pub const MAX_TILE_TYPE: u8 = 6;
 
 // Bounds and centre, in degrees.
-#[derive(Drop)]
+#[derive(Clone, Copy)]
 pub struct Degrees {
     pub min_longitude: f64,
     pub min_latitude: f64,
@@ -36,7 +36,7 @@ pub struct Degrees {
 }
 
 // A count of 0 is an unknown one. The codes are numbers, so that writing can refuse a wrong one.
-#[derive(Drop)]
+#[derive(Clone, Copy)]
 pub struct Header {
     pub version: u8,
     pub root_offset: u64,
@@ -60,13 +60,13 @@ pub struct Header {
     pub center_zoom: u8,
 }
 
-#[derive(Drop)]
+#[derive(Clone, Copy)]
 pub enum HeaderRead {
     Header(Header),
     Refused(Refusal),
 }
 
-#[derive(Drop)]
+#[derive(Clone, Copy)]
 pub enum HeaderWritten {
     Done,
     Refused(Refusal),

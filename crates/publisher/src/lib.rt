@@ -11,7 +11,7 @@ mod sections;
 pub use publishing::{publish, total};
 
 // What the caller says of the tiles, for the header.
-#[derive(Drop)]
+#[derive(Clone, Copy)]
 pub struct Settings {
     pub tile_compression: u8,
     pub tile_type: u8,
@@ -22,14 +22,14 @@ pub struct Settings {
 }
 
 // How many stores there are.
-#[derive(Drop)]
+#[derive(Clone, Copy)]
 pub enum Totalled {
     Stores(u64),
     Refused(Refusal),
 }
 
 // The position after a call's stores.
-#[derive(Drop)]
+#[derive(Clone, Copy)]
 pub enum Published {
     Position(u64),
     Refused(Refusal),

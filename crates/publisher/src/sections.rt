@@ -6,7 +6,7 @@ ghost use Rattle.publisher.specs.Cuts.{past};
 use header::{HEADER_SIZE, MAX_INITIAL_BYTES};
 
 // Where a call stands before a section: how many of the stores ahead it skips, and how many it may still do.
-#[derive(Drop)]
+#[derive(Clone, Copy)]
 pub(crate) struct Cut {
     pub(crate) skip: usize,
     pub(crate) left: usize,

@@ -11,40 +11,40 @@ pub use descent::{lookup, lookup_coord};
 pub use ranges::{leaf_range, open, tile_range};
 
 // So many bytes from a place of the archive on.
-#[derive(Drop)]
+#[derive(Clone, Copy)]
 pub struct Located {
     pub start: Offset,
     pub length: u32,
 }
 
 // A part of the archive, as the header gives it; it may lie outside.
-#[derive(Drop)]
+#[derive(Clone, Copy)]
 pub struct Section {
     pub offset: Offset,
     pub length: u64,
 }
 
-#[derive(Drop)]
+#[derive(Clone, Copy)]
 pub struct Sections {
     pub root: Section,
     pub leaves: Section,
     pub tiles: Section,
 }
 
-#[derive(Drop)]
+#[derive(Clone, Copy)]
 pub enum Opened {
     Sections(Sections),
     Refused(Refusal),
 }
 
 // The range of an entry in its section.
-#[derive(Drop)]
+#[derive(Clone, Copy)]
 pub enum Ranged {
     At(Located),
     Refused(Refusal),
 }
 
-#[derive(Drop)]
+#[derive(Clone, Copy)]
 pub enum LookupAnswer {
     Found(Located),
     Absent,

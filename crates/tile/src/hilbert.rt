@@ -44,7 +44,7 @@ fn rank(right: bool, upper: bool) -> u64
 }
 
 // The index of the bits passed, and what is left of x and y.
-#[derive(Drop)]
+#[derive(Clone, Copy)]
 struct Walk {
     h: u64,
     x: u32,
@@ -84,7 +84,7 @@ pub(crate) fn index_of(z: u32, x: u32, y: u32) -> u64
     w.h
 }
 
-#[derive(Drop)]
+#[derive(Clone, Copy)]
 pub(crate) struct Spot {
     pub(crate) x: u32,
     pub(crate) y: u32,

@@ -12,29 +12,29 @@ mod pyramid;
 pub use pyramid::PYRAMID_SIZE_BY_ZOOM;
 
 // The fields are private, so that what `new` refused is not made elsewhere.
-#[derive(Drop)]
+#[derive(Clone, Copy)]
 pub struct TileCoord {
     z: u8,
     x: u32,
     y: u32,
 }
 
-#[derive(Drop)]
+#[derive(Clone, Copy)]
 pub struct TileId(u64);
 
-#[derive(Drop)]
+#[derive(Clone, Copy)]
 pub enum CoordAnswer {
     Coord(TileCoord),
     Refused(Refusal),
 }
 
-#[derive(Drop)]
+#[derive(Clone, Copy)]
 pub enum IdAnswer {
     Id(TileId),
     Refused(Refusal),
 }
 
-#[derive(Drop)]
+#[derive(Clone, Copy)]
 pub enum ZoomAnswer {
     Zoom(u8),
     Refused(Refusal),

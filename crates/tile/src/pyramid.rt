@@ -48,7 +48,7 @@ pub(crate) fn base_of(z: u8) -> u64
 }
 
 // A zoom and its first id.
-#[derive(Drop)]
+#[derive(Clone, Copy)]
 pub(crate) struct Level {
     pub(crate) z: u8,
     pub(crate) base: u64,

@@ -9,26 +9,26 @@ ghost use Rattle.varint.specs.Answers.{said_u64, said_u32, said_written, writing
 use refusal::Refusal;
 
 // A place in a slice, at which numbers are read or written. It may lie past the end.
-#[derive(Drop)]
+#[derive(Clone, Copy)]
 pub struct Cursor {
     pub at: usize,
 }
 
 // The number and the cursor after it.
-#[derive(Drop)]
+#[derive(Clone, Copy)]
 pub enum ReadU64 {
     Number(u64, Cursor),
     Refused(Refusal),
 }
 
-#[derive(Drop)]
+#[derive(Clone, Copy)]
 pub enum ReadU32 {
     Number(u32, Cursor),
     Refused(Refusal),
 }
 
 // The cursor after what was written.
-#[derive(Drop)]
+#[derive(Clone, Copy)]
 pub enum Written {
     Next(Cursor),
     Refused(Refusal),

@@ -10,7 +10,7 @@ use refusal::Refusal;
 use varint::{Cursor, ReadU32, ReadU64};
 
 // An entry whose checks are still to come: its id may lie above the largest.
-#[derive(Drop)]
+#[derive(Clone, Copy)]
 pub struct Row {
     pub id: u64,
     pub run_length: u32,
@@ -19,7 +19,7 @@ pub struct Row {
 }
 
 // Where a walk stands: a cursor in each column, the rows left, and what the next row needs of the last one, if it is not the first.
-#[derive(Drop)]
+#[derive(Clone, Copy)]
 pub struct Columns {
     ids: Cursor,
     runs: Cursor,
@@ -33,14 +33,14 @@ pub struct Columns {
 }
 
 // The columns before their first row.
-#[derive(Drop)]
+#[derive(Clone, Copy)]
 pub enum Opened {
     At(Columns),
     Refused(Refusal),
 }
 
 // A row, and the columns after it.
-#[derive(Drop)]
+#[derive(Clone, Copy)]
 pub enum Next {
     Row(Row, Columns),
     End,
@@ -48,7 +48,7 @@ pub enum Next {
 }
 
 // The cursor after a column.
-#[derive(Drop)]
+#[derive(Clone, Copy)]
 enum Past {
     At(Cursor),
     Refused(Refusal),

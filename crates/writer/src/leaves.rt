@@ -14,7 +14,7 @@ use crate::columns::{put_entries, put_number};
 use crate::sizing::sized;
 
 // Leaves of so many entries, 0 where there is only a root; how many pointers the root has; how large both are.
-#[derive(Drop)]
+#[derive(Clone, Copy)]
 pub(crate) struct Plan {
     pub(crate) leaf: usize,
     pub(crate) pointers: usize,

@@ -16,26 +16,26 @@ pub use building::{build, build_sizes};
 pub use writing::{encoded_len, write};
 
 // How many bytes the root and the leaves have.
-#[derive(Drop)]
+#[derive(Clone, Copy)]
 pub struct Sizes {
     pub root: usize,
     pub leaves: usize,
 }
 
 // How many bytes a directory has.
-#[derive(Drop)]
+#[derive(Clone, Copy)]
 pub enum Length {
     Bytes(usize),
     Refused(Refusal),
 }
 
-#[derive(Drop)]
+#[derive(Clone, Copy)]
 pub enum Sized {
     Sizes(Sizes),
     Refused(Refusal),
 }
 
-#[derive(Drop)]
+#[derive(Clone, Copy)]
 pub enum Built {
     Done(Sizes, Counts),
     Refused(Refusal),

@@ -8,7 +8,7 @@ ghost use Rattle.writer.specs.Cells.{Ready, end_at, part, size_from};
 use directory::{Offset, wide};
 
 // Where the entry before ends: its offset and length, unless there is none before.
-#[derive(Drop)]
+#[derive(Clone, Copy)]
 pub(crate) struct End {
     pub(crate) first: bool,
     pub(crate) offset: Offset,
