@@ -16,8 +16,8 @@ pub fn degrees_of(n: i32) -> f64
 // The whole number nearest to a, halves up, for an a above 0 and below 2^31, from its bits: a is
 // digits / 2^drop, and below 1/2 where the field is below 1022.
 fn rounded_by_bits(a: f64) -> u64
-    requires fact_1 { T (Ieee.lt (fin false 0 (pos 0)) a) }
-    requires fact_2 { T (Ieee.lt a (fin false 1 (pos 31))) }
+    requires positive { T (Ieee.lt (fin false 0 (pos 0)) a) }
+    requires below { T (Ieee.lt a (fin false 1 (pos 31))) }
     ensures { result ≡ size_of a }
 {
     let b = f64::to_bits(a);
@@ -32,8 +32,8 @@ fn rounded_by_bits(a: f64) -> u64
 
 // The same for any a above 0, and at most a number that is itself at most 2^31.
 fn capped(a: f64, most: u64) -> u64
-    requires fact_1 { T (Ieee.lt (fin false 0 (pos 0)) a) }
-    requires fact_2 { most ≤ 2 ^ 31 }
+    requires positive { T (Ieee.lt (fin false 0 (pos 0)) a) }
+    requires fits { most ≤ 2 ^ 31 }
     ensures { result ≡ min (size_of a) most }
 {
     if a < 2147483648.0 {

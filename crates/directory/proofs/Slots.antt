@@ -8,7 +8,7 @@ use lib.ListN.{get_or-map, drop, drop_of_length-le, get_or, length, length-map, 
 use lib.Seq.{drop-cons, get_or-take, length-take-le}
 use Rattle.refusal.specs.Out.{Out, ok, bad, ◌>>=◌}
 use Rattle.refusal.proofs.OutLaws.{bind_assoc, need-bind}
-use Rattle.directory.specs.Entries.{Entry, check, entry}
+use Rattle.directory.specs.Entries.{after, Entry, check, entry}
 use Rattle.directory.specs.Search.{shortest, stored}
 use Rattle.directory.specs.Answers.{checked}
 use Rattle.directory.specs.Stores.{checked_all}
@@ -57,7 +57,7 @@ module _ (n : ℕ) (a b l o : List ℕ) (h : n ≤ shortest a b l o) where
 pub check-all : {A : Type 0} (lo : ℕ) (es : List Entry) (x : Out A) → check lo es x ≡ checked_all lo es >>= λ _. x
 unfolding checked
 check-all lo [] x = refl
-check-all lo (e ∷ es) x = simp (bind_assoc, need-bind) (rw (check-all _ es x))
+check-all lo (e ∷ es) x = simp (bind_assoc, need-bind) (rw (check-all (after e) es x))
 
 -- the entries before slot i have passed, and the least id that may come is lo; whatever the offsets are
 pub record Passed (n : ℕ) (a b l : List ℕ) (i lo : ℕ) : Type 0 where

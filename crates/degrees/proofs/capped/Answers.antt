@@ -10,8 +10,8 @@ use Rattle.degrees.proofs.capped.Goals as goal
 
 pub rounded_by_bits-n-requires : goal.rounded_by_bits-n-requires
 unfolding of_bits
-rounded_by_bits-n-requires c = (c.requires.0, passes _ c.if-a.true)
+rounded_by_bits-n-requires c = record { positive = c.requires.positive; below = passes _ c.if-a.true }
 
 pub returns-else-a : goal.returns-else-a
 unfolding of_bits
-returns-else-a c = let h = far c.args.a c.requires.0 (passes _ (ap not c.if-a.false)) in omega arith
+returns-else-a c = let h = far c.args.a c.requires.positive (passes _ (ap not c.if-a.false)) in omega arith

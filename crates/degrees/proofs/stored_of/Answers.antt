@@ -29,24 +29,19 @@ minus-back r h = to_z-of_z w64 (pos 0 -ℤ to_z w64 r) (minus-fits r h) ∙ minu
 minus-back-fits : (r : ℕ) → r ≤ 2 ^ 31 → SFits w32 (to_z w64 (of_z w64 (pos 0 -ℤ to_z w64 r)))
 minus-back-fits r h = subst (λ (z : ℤ). SFits w32 z) (sym (minus-back r h)) (sfits_of (mag-neg r h))
 
--- LOOK tie
--- the result of the second call
-small : (c : tie.After-capped2) → c.capped2.result ≤ 2 ^ 31
-small c = omega (arith, c.capped2.ensures)
-
 pub capped-requires : goal.capped-requires
 unfolding of_bits
-capped-requires c = (passes _ c.if-p.true, lit≤ tt)
+capped-requires c = record { positive = passes _ c.if-p.true; fits = lit≤ tt }
 
 pub capped-requires-then-p-2 : goal.capped-requires-then-p-2
 unfolding of_bits
-capped-requires-then-p-2 c = ((under _ (passes _ c.if-p-2.true)).0, lit≤ tt)
+capped-requires-then-p-2 c = record { positive = (under _ (passes _ c.if-p-2.true)).0; fits = lit≤ tt }
 
 pub overflow_sub-result : goal.overflow_sub-result
-overflow_sub-result c = minus-fits _ (small c)
+overflow_sub-result c = minus-fits c.capped-then-p-2.result (omega (arith, c.capped-then-p-2.ensures))
 
 pub overflow_cast-result-then-p-2-2 : goal.overflow_cast-result-then-p-2-2
-overflow_cast-result-then-p-2-2 c = minus-back-fits _ (small c)
+overflow_cast-result-then-p-2-2 c = minus-back-fits c.capped-then-p-2.result (omega (arith, c.capped-then-p-2.ensures))
 
 pub returns-then-p : goal.returns-then-p
 unfolding of_bits of_int ten_million stored_of_lem
@@ -55,8 +50,8 @@ returns-then-p c = to_z_pos w32 _ (omega arith) ∙ ap pos c.capped.ensures ∙ 
 pub returns-then-p-2 : goal.returns-then-p-2
 unfolding of_bits of_int ten_million stored_of_lem
 returns-then-p-2 c =
-    to_z-of_z w32 _ (minus-back-fits _ (small c))
-    ∙ minus-back _ (small c)
+    to_z-of_z w32 _ (minus-back-fits c.capped-then-p-2.result (omega (arith, c.capped-then-p-2.ensures)))
+    ∙ minus-back c.capped-then-p-2.result (omega (arith, c.capped-then-p-2.ensures))
     ∙ ap (λ (n : ℕ). neg_ℤ (pos n)) c.capped-then-p-2.ensures
     ∙ sym (under _ (passes _ c.if-p-2.true)).1
 

@@ -1,0 +1,15 @@
+-- `stores::zero_u64` meets its contract. Assumes nothing.
+use Prim.Native.Nat.{◌-◌, ◌≤◌}
+use native.Mathlib.Omega.{arith}
+use lib.ListN.{length}
+use borrow.Author.Rules.{rules}
+use Rattle.directory.proofs.Kept.{Zeroed, zero-done, zero-start, zero_turn}
+use Rattle.directory.proofs.stores.zero_u64.Given as goal
+
+abbrev pub invariant-loop-i : goal.invariant-loop-i
+invariant-loop-i l =
+    (l.i ≤ length l.initial.out) × Zeroed l.initial.out l.i l.out
+
+abbrev pub decreases-loop-i : goal.decreases-loop-i
+decreases-loop-i l =
+    length l.initial.out - l.i

@@ -1,0 +1,20 @@
+-- `put_u32` meets its contract. Assumes nothing.
+use native.Mathlib.Numerals.{towards_suc}
+use native.Mathlib.Omega.{arith}
+use lib.ListN.{length-set}
+use Rattle.header.specs.Bytes.{bytes_of}
+use borrow.Author.Rules.{rules}
+use Rattle.header.proofs.bytes.put_u32.Goals as goal
+
+pub bounds-out-at-2 : goal.bounds-out-at-2
+bounds-out-at-2 c = simp length-set (omega arith)
+
+pub bounds-out-at-3 : goal.bounds-out-at-3
+bounds-out-at-3 c = simp length-set (omega arith)
+
+pub bounds-out-at-4 : goal.bounds-out-at-4
+bounds-out-at-4 c = simp length-set (omega arith)
+
+pub returns : goal.returns
+unfolding bytes_of
+returns c = simp towards_suc

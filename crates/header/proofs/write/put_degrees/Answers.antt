@@ -1,0 +1,18 @@
+-- `put_degrees` meets its contract. Assumes nothing.
+use native.Mathlib.Omega.{arith}
+use mathlib.Core.List.{flatten}
+use lib.ListN.{length-set}
+use Rattle.header.specs.Bytes.{bytes_of}
+use Rattle.header.specs.Header.{header_fields}
+use borrow.Author.Rules.{rules}
+use Rattle.header.proofs.write.put_degrees.Goals as goal
+
+pub put_position-requires-3 : goal.put_position-requires-3
+put_position-requires-3 c = simp length-set (omega arith)
+
+pub returns : goal.returns
+unfolding flatten bytes_of header_fields
+returns c =
+    let second = c.before.before.before.before in
+    let first = second.before.before.before.before in
+    rw (c.put-position3.ensures, second.put-position2.ensures, first.put-position.ensures)

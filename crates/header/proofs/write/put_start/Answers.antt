@@ -1,0 +1,33 @@
+-- `put_start` meets its contract. Assumes nothing.
+use native.Mathlib.Omega.{arith}
+use lib.ListN.{length-set}
+use mathlib.Core.List.{flatten}
+use mathlib.Core.Path.{refl}
+use Rattle.header.specs.Header.{header_fields}
+use borrow.Author.Rules.{rules}
+use Rattle.header.proofs.write.put_start.Goals as goal
+
+pub bounds-out-1 : goal.bounds-out-1
+bounds-out-1 c = simp length-set (omega arith)
+
+pub bounds-out-2 : goal.bounds-out-2
+bounds-out-2 c = simp length-set (omega arith)
+
+pub bounds-out-3 : goal.bounds-out-3
+bounds-out-3 c = simp length-set (omega arith)
+
+pub bounds-out-4 : goal.bounds-out-4
+bounds-out-4 c = simp length-set (omega arith)
+
+pub bounds-out-5 : goal.bounds-out-5
+bounds-out-5 c = simp length-set (omega arith)
+
+pub bounds-out-6 : goal.bounds-out-6
+bounds-out-6 c = simp length-set (omega arith)
+
+pub bounds-out-7 : goal.bounds-out-7
+bounds-out-7 c = simp length-set (omega arith)
+
+pub returns : goal.returns
+unfolding flatten header_fields
+returns c = refl
