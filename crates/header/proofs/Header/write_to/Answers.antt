@@ -18,15 +18,15 @@ from_start h l n = sets-eq (header_bytes h) l 0 n
 
 pub returns-then-self-gt-MAX_COMPRESSION : goal.returns-then-self-gt-MAX_COMPRESSION
 unfolding write_header
-returns-then-self-gt-MAX_COMPRESSION c = simp (lt-leb, c.if-self-gt-MAX_COMPRESSION.true) (refl, refl)
+returns-then-self-gt-MAX_COMPRESSION c = simp (lt-leb, c.if-self-gt-MAX_COMPRESSION.true) record { answer = refl; bytes = refl }
 
 pub returns-then-self-gt-MAX_COMPRESSION-2 : goal.returns-then-self-gt-MAX_COMPRESSION-2
 unfolding write_header
-returns-then-self-gt-MAX_COMPRESSION-2 c = simp (le-leb, lt-leb, c.if-self-gt-MAX_COMPRESSION.false, c.if-self-gt-MAX_COMPRESSION-2.true) (refl, refl)
+returns-then-self-gt-MAX_COMPRESSION-2 c = simp (le-leb, lt-leb, c.if-self-gt-MAX_COMPRESSION.false, c.if-self-gt-MAX_COMPRESSION-2.true) record { answer = refl; bytes = refl }
 
 pub returns-then-self-gt-MAX_TILE_TYPE : goal.returns-then-self-gt-MAX_TILE_TYPE
 unfolding write_header
-returns-then-self-gt-MAX_TILE_TYPE c = simp (le-leb, lt-leb, c.if-self-gt-MAX_COMPRESSION.false, c.if-self-gt-MAX_COMPRESSION-2.false, c.if-self-gt-MAX_TILE_TYPE.true) (refl, refl)
+returns-then-self-gt-MAX_TILE_TYPE c = simp (le-leb, lt-leb, c.if-self-gt-MAX_COMPRESSION.false, c.if-self-gt-MAX_COMPRESSION-2.false, c.if-self-gt-MAX_TILE_TYPE.true) record { answer = refl; bytes = refl }
 
 pub returns-then-out-lt-HEADER_SIZE : goal.returns-then-out-lt-HEADER_SIZE
 unfolding write_header
@@ -39,7 +39,7 @@ returns-then-out-lt-HEADER_SIZE c =
       c.if-self-gt-MAX_TILE_TYPE.false,
       c.if-out-lt-HEADER_SIZE.true,
     )
-    (refl, refl)
+    record { answer = refl; bytes = refl }
 
 pub returns : goal.returns
 unfolding write_header
@@ -52,4 +52,4 @@ returns c =
       c.if-self-gt-MAX_TILE_TYPE.false,
       c.if-out-lt-HEADER_SIZE.false,
     )
-    (refl, c.put_header.ensures ∙ from_start a.self a.out.now c.if-out-lt-HEADER_SIZE.false)
+    record { answer = refl; bytes = c.put_header.ensures ∙ from_start a.self a.out.now c.if-out-lt-HEADER_SIZE.false }

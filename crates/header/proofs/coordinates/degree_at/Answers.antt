@@ -9,5 +9,5 @@ use Rattle.header.proofs.coordinates.degree_at.Goals as goal
 
 pub returns : goal.returns
 returns c =
-    let s = c.Signed-of in
-    c.degrees_of.ensures ∙ ap degrees_of_lem (to_z-of_z w32 _ (record { sfits = s.type-inv }) ∙ s.ensures ∙ ap signed_of c.u32_at.ensures)
+    let s = c.signed_of in
+    c.degrees_of.ensures ∙ ap degrees_of_lem (to_z-of_z w32 _ (record { sfits = s.type_inv }) ∙ s.ensures ∙ ap signed_of c.u32_at.ensures)

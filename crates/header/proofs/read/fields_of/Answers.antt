@@ -8,20 +8,20 @@ use Rattle.header.proofs.read.fields_of.Goals as goal
 pub returns : goal.returns
 unfolding fields_of
 returns c =
-    let s = c.before.before.before.before.before.before.before.before.before.before.before.before.before.args.bytes.now in
+    let s = c.args.bytes.now in
     λ i. record {
       version = byte_at s 7;
-      root_offset = c.before.before.before.before.before.before.before.before.before.before.u64-at.ensures i;
-      root_length = c.before.before.before.before.before.before.before.before.before.u64-at2.ensures i;
-      metadata_offset = c.before.before.before.before.before.before.before.before.u64-at3.ensures i;
-      metadata_length = c.before.before.before.before.before.before.before.u64-at4.ensures i;
-      leaf_offset = c.before.before.before.before.before.before.u64-at5.ensures i;
-      leaf_length = c.before.before.before.before.before.u64-at6.ensures i;
-      data_offset = c.before.before.before.before.u64-at7.ensures i;
-      data_length = c.before.before.before.u64-at8.ensures i;
-      n_addressed_tiles = c.before.before.u64-at9.ensures i;
-      n_tile_entries = c.before.u64-at10.ensures i;
-      n_tile_contents = c.u64-at11.ensures i;
+      root_offset = c.u64_at.ensures i;
+      root_length = c.u64_at-2.ensures i;
+      metadata_offset = c.u64_at-3.ensures i;
+      metadata_length = c.u64_at-4.ensures i;
+      leaf_offset = c.u64_at-5.ensures i;
+      leaf_length = c.u64_at-6.ensures i;
+      data_offset = c.u64_at-7.ensures i;
+      data_length = c.u64_at-8.ensures i;
+      n_addressed_tiles = c.u64_at-9.ensures i;
+      n_tile_entries = c.u64_at-10.ensures i;
+      n_tile_contents = c.u64_at-11.ensures i;
       clustered = eqb (byte_at s 96) 1;
       internal_compression = byte_at s 97;
       tile_compression = byte_at s 98;

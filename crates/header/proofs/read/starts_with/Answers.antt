@@ -34,8 +34,8 @@ bounds-bytes-i c = omega arith
 
 pub returns-then-start-i : goal.returns-then-start-i
 returns-then-start-i c =
-    let a = c.before.args in
-    sym (c.loop.invariant.1 ∙ differ a.start.now a.bytes.now c.loop.i (omega arith) (omega arith) c.if-start-i.true)
+    let a = c.args in
+    sym (c.loop-i.invariant.1 ∙ differ a.start.now a.bytes.now c.loop-i.i (omega arith) (omega arith) c.if-start-i.true)
 
 pub overflow_add-i : goal.overflow_add-i
 overflow_add-i c = omega arith
@@ -45,8 +45,8 @@ loop-i-smaller c = omega arith
 
 pub loop-i-preserved : goal.loop-i-preserved
 loop-i-preserved c =
-    let a = c.before.args in
-    (omega arith, c.loop.invariant.1 ∙ agree a.start.now a.bytes.now c.loop.i (omega arith) (omega arith) c.if-start-i.false)
+    let a = c.args in
+    (omega arith, c.loop-i.invariant.1 ∙ agree a.start.now a.bytes.now c.loop-i.i (omega arith) (omega arith) c.if-start-i.false)
 
 pub returns : goal.returns
 returns c =

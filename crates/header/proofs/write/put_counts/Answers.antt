@@ -8,6 +8,4 @@ use Rattle.header.proofs.write.put_counts.Goals as goal
 pub returns : goal.returns
 unfolding flatten bytes_of header_fields
 returns c =
-    let second = c.before.before.before.before in
-    let first = second.before.before.before.before in
-    rw (c.put-u643.ensures, second.put-u642.ensures, first.put-u64.ensures)
+    rw (c.put_u64-3.ensures, c.put_u64-2.ensures, c.put_u64.ensures)

@@ -13,6 +13,4 @@ put_position-requires-3 c = simp length-set (omega arith)
 pub returns : goal.returns
 unfolding flatten bytes_of header_fields
 returns c =
-    let second = c.before.before.before.before in
-    let first = second.before.before.before.before in
-    rw (c.put-position3.ensures, second.put-position2.ensures, first.put-position.ensures)
+    rw (c.put_position-3.ensures, c.put_position-2.ensures, c.put_position.ensures)

@@ -8,8 +8,4 @@ use Rattle.header.proofs.write.put_header.Goals as goal
 pub returns : goal.returns
 unfolding flatten bytes_of header_fields header_bytes
 returns c =
-    let fourth = c.before.before.before.before in
-    let third = fourth.before.before.before.before in
-    let second = third.before.before.before.before in
-    let first = second.before.before.before.before in
-    rw (c.put-degrees.ensures, fourth.put-codes.ensures, third.put-counts.ensures, second.put-sections.ensures, first.put-start.ensures)
+    rw (c.put_degrees.ensures, c.put_codes.ensures, c.put_counts.ensures, c.put_sections.ensures, c.put_start.ensures)

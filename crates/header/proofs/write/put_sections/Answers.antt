@@ -8,7 +8,4 @@ use Rattle.header.proofs.write.put_sections.Goals as goal
 pub returns : goal.returns
 unfolding flatten bytes_of header_fields
 returns c =
-    let third = c.before.before.before.before in
-    let second = third.before.before.before.before in
-    let first = second.before.before.before.before in
-    rw (c.put-section4.ensures, third.put-section3.ensures, second.put-section2.ensures, first.put-section.ensures)
+    rw (c.put_section-4.ensures, c.put_section-3.ensures, c.put_section-2.ensures, c.put_section.ensures)
