@@ -8,7 +8,7 @@ use borrow.Author.Rules.{rules}
 use Rattle.acceptance.proofs.accepting.accept.Goals as goal
 
 pub returns-in-Refused : goal.returns-in-Refused
-returns-in-Refused c = let a = c.args in counts-bad a.count a.ids.now a.runs.now a.lengths.now a.offsets.now a.data-length _ (ap said_checked (sym c.in-Refused.is) ∙ c.check_count.ensures)
+returns-in-Refused c = let a = c.args in counts-bad a.count a.ids.now a.runs.now a.lengths.now a.offsets.now a.data_length _ (ap said_checked (sym c.in-Refused.is) ∙ c.check_count.ensures)
 
 pub check_tiles-requires : goal.check_tiles-requires
 check_tiles-requires c =
@@ -17,4 +17,4 @@ check_tiles-requires c =
     (k.0, k.1)
 
 pub returns-in-Next : goal.returns-in-Next
-returns-in-Next c = let a = c.args in c.check_tiles.ensures ∙ counts-are a.count a.ids.now a.runs.now a.lengths.now a.offsets.now a.data-length _ (ap said_checked (sym c.in-Next.is) ∙ c.check_count.ensures)
+returns-in-Next c = let a = c.args in c.check_tiles.ensures ∙ counts-are a.count a.ids.now a.runs.now a.lengths.now a.offsets.now a.data_length _ (ap said_checked (sym c.in-Next.is) ∙ c.check_count.ensures)

@@ -23,7 +23,7 @@ returns-in-Refused c =
     let a = c.args in
     let es = stored a.count a.ids.now a.runs.now a.lengths.now a.offsets.now in
     let m = slot_next a.count a.ids.now a.runs.now a.lengths.now a.offsets.now c.requires.1 l.i c.loop-i-test.true in
-    tiles-bad a.data-length l.lo (drop l.i es) (ok (counts_of es)) l.invariant.2 m (ap said_checked (sym c.in-Refused.is) ∙ c.check_tile.ensures)
+    tiles-bad a.data_length l.lo (drop l.i es) (ok (counts_of es)) l.invariant.2 m (ap said_checked (sym c.in-Refused.is) ∙ c.check_tile.ensures)
 
 pub overflow_add-sum : goal.overflow_add-sum
 overflow_add-sum c =
@@ -37,7 +37,7 @@ loop-i-preserved c =
     let m = slot_next a.count a.ids.now a.runs.now a.lengths.now a.offsets.now c.requires.1 l.i c.loop-i-test.true in (
       omega (arith, c.wide-sum.ensures, c.type_inv.runs l.i),
       omega (arith, c.wide-sum.ensures, ap addressed m),
-      tiles-on a.data-length l.lo (drop l.i es) (ok (counts_of es)) l.invariant.2 m (ap said_checked (sym c.in-Next.is) ∙ c.check_tile.ensures),
+      tiles-on a.data_length l.lo (drop l.i es) (ok (counts_of es)) l.invariant.2 m (ap said_checked (sym c.in-Next.is) ∙ c.check_tile.ensures),
     )
 
 pub returns : goal.returns
@@ -49,4 +49,4 @@ returns c =
     let n : a.count ≡ length es = sym (stored-length a.count a.ids.now a.runs.now a.lengths.now a.offsets.now c.requires.1) in
     let t : l.sum ≡ addressed es = omega (arith, ap addressed z) in
     ap₂ {C = Out Counts} (λ x y. ok (record { n_tile_entries = x; n_addressed_tiles = y })) n t
-    ∙ tiles-done a.data-length l.lo (drop l.i es) (ok (counts_of es)) l.invariant.2 z
+    ∙ tiles-done a.data_length l.lo (drop l.i es) (ok (counts_of es)) l.invariant.2 z

@@ -1,0 +1,21 @@
+-- `columns::put_offsets` meets its contract. Assumes nothing.
+use Prim.Native.Nat.{ℕ, ◌+◌, ◌-◌, ◌^◌, ◌≤◌}
+use mathlib.Core.Path.{refl, ◌≡◌, ap, ap₂}
+use mathlib.Core.List.{List, [], ◌∷◌}
+use mathlib.Core.Option.{none, some}
+use lib.ListN.{get_or}
+use Rattle.varint.specs.Varint.{put, wide}
+use Rattle.directory.specs.Encode.{code_of, put_all}
+use Rattle.writer.specs.Cells.{Below, end_at, offset_codes, part}
+use Rattle.writer.proofs.Parts.{codes-more, part_none}
+use Rattle.writer.proofs.Puts.{Kept, begin, last_empty, number, onward, room}
+use borrow.Author.Rules.{rules}
+use Rattle.writer.proofs.columns.put_offsets.Given as goal
+
+abbrev pub invariant-loop-i : goal.invariant-loop-i
+invariant-loop-i l =
+    Below (2 ^ 64) (offset_codes (end_at l.end) (part l.i l.to l.lengths) (part l.i l.to l.offsets))
+    × Kept l.initial.out l.start (put_all wide (offset_codes none (part l.from l.to l.lengths) (part l.from l.to l.offsets))) l.out l.at (put_all wide (offset_codes (end_at l.end) (part l.i l.to l.lengths) (part l.i l.to l.offsets)) ∷ [])
+
+abbrev pub decreases-loop-i : goal.decreases-loop-i
+decreases-loop-i l = l.to - l.i
