@@ -20,7 +20,7 @@ use Rattle.writer.proofs.leaves.measure.Goals as goal
 use Rattle.writer.proofs.leaves.measure.Goals.{After-size-in-loop-from}
 
 -- a turn's leaf: where it ends, how long it is, and how much its pointer takes
-record Turn (c : After-size-in-loop-from invariant-loop decreases-loop) : Type 0 where
+record Turn (c : After-size-in-loop-from) : Type 0 where
   few : c.args.count ≤ 16777216
   low : c.loop-from.from < c.leaf_end-to.result
   high : c.leaf_end-to.result ≤ c.args.count
@@ -30,7 +30,7 @@ record Turn (c : After-size-in-loop-from invariant-loop decreases-loop) : Type 0
   leaf : let a = c.args in c.sized-length.result ≡ length (encode (part c.loop-from.from (leaf_end_lem c.loop-from.from a.k a.count) (entries a.ids.now a.runs.now a.lengths.now a.offsets.now)))
   pointer : c.size-in-loop-from.result ≡ length (put narrow c.sized-length.result)
 
-turn : (c : After-size-in-loop-from invariant-loop decreases-loop) → Turn c
+turn : (c : After-size-in-loop-from) → Turn c
 turn c =
     let a = c.args in
     let l = c.loop-from in
@@ -80,29 +80,29 @@ overflow_sub-id c =
     rw (first-is a.ids.now a.runs.now a.lengths.now a.offsets.now a.k a.count c.requires.0 c.requires.1 l.from c.loop-from-test.true) at r.0
 
 pub overflow_add-root : goal.overflow_add-root
-overflow_add-root c = let t = turn c in record { fits = omega (arith, t.few) }
+overflow_add-root c = let t = turn (goal.at.overflow_add-root c).After-size-in-loop-from in record { fits = omega (arith, t.few) }
 
 pub overflow_add-root-in-loop-from : goal.overflow_add-root-in-loop-from
-overflow_add-root-in-loop-from c = let t = turn c in record { fits = omega (arith, t.few) }
+overflow_add-root-in-loop-from c = let t = turn (goal.at.overflow_add-root-in-loop-from c).After-size-in-loop-from in record { fits = omega (arith, t.few) }
 
 pub overflow_add-root-in-loop-from-2 : goal.overflow_add-root-in-loop-from-2
-overflow_add-root-in-loop-from-2 c = let t = turn c in record { fits = omega (arith, t.few) }
+overflow_add-root-in-loop-from-2 c = let t = turn (goal.at.overflow_add-root-in-loop-from-2 c).After-size-in-loop-from in record { fits = omega (arith, t.few) }
 
 pub overflow_add-leaves : goal.overflow_add-leaves
-overflow_add-leaves c = let t = turn c in record { fits = omega (arith, t.few) }
+overflow_add-leaves c = let t = turn (goal.at.overflow_add-leaves c).After-size-in-loop-from in record { fits = omega (arith, t.few) }
 
 pub overflow_add-n : goal.overflow_add-n
-overflow_add-n c = let t = turn c in record { fits = omega (arith, t.few) }
+overflow_add-n c = let t = turn (goal.at.overflow_add-n c).After-size-in-loop-from in record { fits = omega (arith, t.few) }
 
 pub loop-from-smaller : goal.loop-from-smaller
-loop-from-smaller c = let t = turn c in omega (arith, t.low)
+loop-from-smaller c = let t = turn (goal.at.loop-from-smaller c).After-size-in-loop-from in omega (arith, t.low)
 
 pub loop-from-preserved : goal.loop-from-preserved
 loop-from-preserved c =
     let a = c.args in
     let l = c.loop-from in
     let es = entries a.ids.now a.runs.now a.lengths.now a.offsets.now in
-    let t = turn c in
+    let t = turn (goal.at.loop-from-preserved c).After-size-in-loop-from in
     let le = c.leaf_end-to.ensures in
     let m = cuts-more es a.k l.from a.count c.requires.0 c.loop-from-test.true c.requires.1 in
     let f = first-is a.ids.now a.runs.now a.lengths.now a.offsets.now a.k a.count c.requires.0 c.requires.1 l.from c.loop-from-test.true in

@@ -8,13 +8,6 @@ use Rattle.writer.proofs.Pointers.{codes-none, codes-some}
 use Rattle.writer.proofs.Puts.{Kept, begin, byte, done, last_empty, onward}
 use borrow.Author.Rules.{rules}
 use Rattle.writer.proofs.leaves.put_codes.Goals as goal
-use Rattle.writer.proofs.leaves.put_codes.Goals.{After-put_zeros}
-
-all-put : (c : After-put_zeros) → let a = c.args in Kept a.out.now a.start (leaf_codes a.n) c.put_zeros.new.out c.put_zeros.result []
-all-put c =
-    let a = c.args in
-    let k = byte (begin a.out.now a.start (leaf_codes a.n) (leaf_codes a.n ∷ []) refl) (codes-some a.n c.if-n-eq0.false) in
-    onward (onward k (record { past = refl; held = refl })) c.put_zeros.ensures
 
 pub returns-then-n-eq0 : goal.returns-then-n-eq0
 returns-then-n-eq0 c = let a = c.args in last_empty (begin a.out.now a.start (leaf_codes a.n) (leaf_codes a.n ∷ []) refl) (codes-none a.n c.if-n-eq0.true)
@@ -23,4 +16,7 @@ pub put_zeros-requires : goal.put_zeros-requires
 put_zeros-requires c = simp length-set (omega (arith, c.requires))
 
 pub returns : goal.returns
-returns c = done (all-put c)
+returns c =
+    let a = c.args in
+    let k = byte (begin a.out.now a.start (leaf_codes a.n) (leaf_codes a.n ∷ []) refl) (codes-some a.n c.if-n-eq0.false) in
+    done (onward (onward k (record { past = refl; held = refl })) c.put_zeros.ensures)

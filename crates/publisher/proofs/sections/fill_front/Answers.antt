@@ -1,0 +1,10 @@
+-- `sections::fill_front` meets its contract: the sections in order make the part of the plan. Assumes nothing.
+use borrow.Author.Rules.{rules}
+use Rattle.publisher.proofs.Runs.{front-run}
+use Rattle.publisher.proofs.sections.fill_front.Goals as goal
+
+pub returns : goal.returns
+returns c =
+    let a = c.args in
+    front-run a.header.now a.root.now a.dest.now _ _ _ a.skip a.left c.section-a.result c.section-b.result
+    c.section-a.ensures.0 c.section-a.ensures.1 c.section-b.ensures.0 c.section-b.ensures.1 c.section.ensures.1
