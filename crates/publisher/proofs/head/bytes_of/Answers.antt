@@ -15,4 +15,4 @@ written : (h : Header) (x : List ℕ) → write_header h 127 ≡ ok tt
 written h x e y = rw e at y ∙ append-nil (header_bytes h)
 
 pub returns : goal.returns
-returns c = written c.args.header _ c.requires c.write_to.ensures.1
+returns c = written c.args.header _ c.requires c.write_to.ensures.bytes

@@ -17,4 +17,4 @@ returns c =
     let a = c.args in
     let H = header_bytes (header_for a.settings a.counts (length a.root.now) (length a.metadata.now) (length a.tiles.now) (length a.leaves.now)) in
     plan_run H a.root.now a.metadata.now a.tiles.now a.leaves.now a.dest.now _ _ a.position a.budget c.fill_behind-rest.result
-    c.fill_behind-rest.ensures.0 c.fill_behind-rest.ensures.1 (rw (c.bytes_of-header.ensures, c.heading.ensures) at c.fill_front.ensures)
+    c.fill_behind-rest.ensures.value c.fill_behind-rest.ensures.dest_after (rw (c.bytes_of-header.ensures, c.heading.ensures) at c.fill_front.ensures)

@@ -14,7 +14,7 @@ left o o' old new e = ap (λ (x : Out ℕ). afterwards x old (λ _. new)) e
 
 pub returns-in_default : goal.returns-in_default
 returns-in_default c =
-    (c.admit-said.ensures, left _ _ _ _ (ap said_published (sym c.in_default.is) ∙ c.admit-said.ensures))
+    record { answer = c.admit-said.ensures; bytes = left _ _ _ _ (ap said_published (sym c.in_default.is) ∙ c.admit-said.ensures) }
 
 pub fill-requires : goal.fill-requires
 fill-requires c =
@@ -22,4 +22,4 @@ fill-requires c =
 
 pub returns : goal.returns
 returns c =
-    (c.admit-said.ensures, c.fill.ensures ∙ left _ _ _ _ (ap said_published (sym c.in-Position.is) ∙ c.admit-said.ensures))
+    record { answer = c.admit-said.ensures; bytes = c.fill.ensures ∙ left _ _ _ _ (ap said_published (sym c.in-Position.is) ∙ c.admit-said.ensures) }

@@ -41,9 +41,10 @@ pub returns : goal.returns
 returns c =
     let l = c.loop-k in
     let a = c.args in
-    let e : l.k ≡ min a.left (16384 - a.skip) = omega arith in (
-      made _ _ _ _ _ (omega arith) (omega arith),
-      l.invariant.1
+    let e : l.k ≡ min a.left (16384 - a.skip) = omega arith in record {
+      value = made _ _ _ _ _ (omega arith) (omega arith);
+      dest_after =
+          l.invariant.1
           ∙ ap (λ (k : ℕ). stored_from a.skip k (upward 0 (zeros 16384)) a.dest.now) e
-          ∙ clear-done a.dest.now a.skip a.left,
-    )
+          ∙ clear-done a.dest.now a.skip a.left;
+    }

@@ -7,4 +7,4 @@ pub returns : goal.returns
 returns c =
     let a = c.args in
     front-run a.header.now a.root.now a.dest.now _ _ _ a.skip a.left c.section-a.result c.section-b.result
-    c.section-a.ensures.0 c.section-a.ensures.1 c.section-b.ensures.0 c.section-b.ensures.1 c.section.ensures.1
+    c.section-a.ensures.value c.section-a.ensures.dest_after c.section-b.ensures.value c.section-b.ensures.dest_after c.section.ensures.dest_after
