@@ -3,7 +3,6 @@ use Prim.Native.Nat.{ℕ, ◌≤◌}
 use mathlib.Core.Path.{◌≡◌, sym, ◌∙◌}
 use mathlib.Core.List.{List}
 use native.Mathlib.Omega.{arith}
-use lib.ListN.{length}
 use Rattle.refusal.specs.Out.{ok, bad}
 use Rattle.refusal.proofs.OutLaws.{ok-is}
 use Rattle.directory.specs.Entries.{Entry}

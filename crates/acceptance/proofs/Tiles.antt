@@ -15,7 +15,7 @@ use Rattle.directory.specs.declared.Checked.{Checked}
 use Rattle.directory.specs.Search.{All, shortest, stored}
 use Rattle.directory.proofs.Checks.{one-good, one-sound}
 use Rattle.directory.proofs.Slots.{slot, stored-length}
-use Rattle.acceptance.specs.Accept.{Taken, check_tile_lem, check_tiles_lem, tile_one}
+use Rattle.acceptance.specs.Accept.{Taken, check_tiles_lem, tile_one}
 
 -- ---- one entry: its run, the checks of reading, then its place in the tile data
 

@@ -2,14 +2,14 @@
 use Prim.Native.Nat.{ℕ, ◌+◌, ◌^◌, ◌≤◌, ◌<◌}
 use mathlib.Core.Path.{◌≡◌, refl, ap, sym, ◌∙◌}
 use mathlib.Core.List.{List, [], ◌∷◌}
-use mathlib.Core.Option.{Option, none, some}
+use mathlib.Core.Option.{Option, some}
 use native.Mathlib.Omega.{arith}
 use borrow.Author.Tests.{ltb-true}
 use lib.Dec.{ltb}
 use Rattle.refusal.specs.Out.{Out, ok, bad, ◌>>=◌, need}
 use Rattle.refusal.proofs.OutLaws.{need-bind, need-ok, ok-is}
-use Rattle.directory.specs.Entries.{Entry, Good, Valid, after, check_one, entry}
-use Rattle.directory.specs.Encode.{Fits, Fitting, code_of}
+use Rattle.directory.specs.Entries.{Entry, Good, Valid, after, entry}
+use Rattle.directory.specs.Encode.{Fitting, code_of}
 use Rattle.directory.specs.Answers.{checked, said_checked}
 use Rattle.directory.specs.declared.Checked.{Checked}
 use Rattle.directory.specs.Search.{All}

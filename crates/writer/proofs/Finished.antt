@@ -1,6 +1,6 @@
 -- The outcomes of building. Assumes nothing.
-use Prim.Native.Nat.{ℕ, suc, ◌≤◌, ◌<◌, ◌^◌}
-use mathlib.Core.Path.{◌≡◌, refl, ap, ap₂, subst, sym, ◌∙◌}
+use Prim.Native.Nat.{ℕ, ◌≤◌, ◌<◌, ◌^◌}
+use mathlib.Core.Path.{◌≡◌, refl, ap, sym, ◌∙◌}
 use mathlib.Core.Bool.{Bool, true, false, ◌&&◌}
 use mathlib.Core.List.{List, []}
 use native.Mathlib.Omega.{arith}
@@ -8,14 +8,13 @@ use borrow.Author.Tests.{leb-true}
 use lib.Dec.{leb}
 use lib.ListN.{length}
 use lib.Seq.{sets}
-use Rattle.refusal.specs.Out.{Out, ok, bad, ◌>>=◌, afterwards, need}
+use Rattle.refusal.specs.Out.{Out, ok, bad, need}
 use Rattle.refusal.specs.Number.{number_of}
 use Rattle.refusal.specs.declared.Refusal.{Refusal}
 use Rattle.refusal.proofs.OutLaws.{bind-cong, bind_ok, need-ok, ok-is}
 use Rattle.directory.specs.Entries.{Entry}
 use Rattle.directory.specs.Columns.{entries}
 use Rattle.directory.specs.Encode.{encode}
-use Rattle.directory.specs.Search.{stored}
 use Rattle.acceptance.specs.Accept.{accepting}
 use Rattle.acceptance.specs.Answers.{counts_in_lem, counts_of}
 use Rattle.acceptance.specs.declared.Counts.{Counts}

@@ -7,7 +7,7 @@ use native.Mathlib.Omega.{arith}
 use lib.ListN.{length, length-append}
 use Rattle.varint.specs.Varint.{narrow, put, wide}
 use Rattle.varint.proofs.Shortest.{put_same, put-size}
-use Rattle.directory.specs.Entries.{Entry, entry}
+use Rattle.directory.specs.Entries.{Entry}
 use Rattle.directory.specs.Encode.{code_of, encode}
 use Rattle.writer.specs.Cells.{size_from}
 

@@ -1,13 +1,13 @@
 -- What is chosen and planned for a range of entries. Assumes nothing.
 use Prim.Native.Nat.{ℕ, zero, suc, ◌+◌, ◌/◌, ◌≤◌, ◌<◌}
 use mathlib.Core.Path.{◌≡◌, refl, ap, ap₂, sym, ◌∙◌}
-use mathlib.Core.List.{List, [], ◌∷◌}
+use mathlib.Core.List.{List}
 use native.Mathlib.Omega.{arith}
 use lib.ListN.{length}
 use Rattle.directory.specs.Entries.{Entry}
 use Rattle.directory.specs.Encode.{encode}
 use Rattle.writer.specs.Answers.{sizes_of}
-use Rattle.writer.specs.Build.{Directories, build, leaf_size, leaves_of, pointers, root_room, with_leaves}
+use Rattle.writer.specs.Build.{build, leaf_size, leaves_of, pointers, root_room, with_leaves}
 use Rattle.writer.specs.Cells.{part}
 use Rattle.writer.specs.Cuts.{Measured, Planned, cuts, first_size_lem, shaped}
 use Rattle.writer.specs.declared.leaves.Plan.{Plan}

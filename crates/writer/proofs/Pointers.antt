@@ -1,6 +1,6 @@
 -- The pointers to leaves are a directory that can be written and read back, and its bytes column by column. Assumes nothing.
 use Prim.Native.Nat.{ℕ, zero, suc, ◌+◌, ◌-◌, ◌*◌, ◌^◌, ◌≤◌, ◌<◌}
-use mathlib.Core.Path.{◌≡◌, refl, ap, ap₂, sym, ◌∙◌}
+use mathlib.Core.Path.{◌≡◌, refl, ap, ap₂, ◌∙◌}
 use mathlib.Core.Bool.{true}
 use mathlib.Core.List.{List, [], ◌∷◌, ◌++◌}
 use mathlib.Core.Option.{Option, none, some}
@@ -14,7 +14,7 @@ use Rattle.varint.proofs.Shortest.{put_one}
 use Rattle.directory.specs.Entries.{Entry, Valid, after, max_count}
 use Rattle.directory.specs.Columns.{roomy}
 use Rattle.directory.specs.Decode.{decode}
-use Rattle.directory.specs.Encode.{Fitting, code_of, codes, encode, put_all}
+use Rattle.directory.specs.Encode.{Fitting, codes, encode, put_all}
 use Rattle.directory.proofs.Round.{decode-encode, ids, lens, runs}
 use Rattle.writer.specs.Stock.{Stock}
 use Rattle.writer.specs.Build.{first_id, leaves_of, pointers}

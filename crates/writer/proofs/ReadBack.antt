@@ -1,6 +1,6 @@
 -- The promises of writing and of reading, joined: what was written into a buffer is read back from it. Assumes nothing.
 use Prim.Native.Nat.{ℕ, ◌≤◌}
-use mathlib.Core.Path.{◌≡◌, ap, ap₂, ◌∙◌}
+use mathlib.Core.Path.{◌≡◌, ap, ◌∙◌}
 use mathlib.Core.List.{List, ◌++◌}
 use mathlib.Core.Option.{some}
 use borrow.Author.Tests.{le-leb}
@@ -9,7 +9,6 @@ use lib.ListN.{drop, length, take}
 use Rattle.refusal.specs.Out.{ok, need}
 use Rattle.refusal.proofs.OutLaws.{bind_ok, need-ok, ok-is}
 use Rattle.directory.specs.Answers.{counted, kept, said_read}
-use Rattle.directory.specs.Entries.{Entry}
 use Rattle.directory.specs.Search.{shortest, stored}
 use Rattle.directory.specs.Stores.{ReadInto, reading}
 use Rattle.directory.specs.declared.DirectoryRead.{DirectoryRead}
@@ -18,7 +17,7 @@ use Rattle.writer.specs.Stock.{Typed}
 use Rattle.writer.specs.Answers.{laid, writing}
 use Rattle.writer.specs.Write.{encoding}
 use Rattle.directory.proofs.Counting.{counting-sound}
-use Rattle.writer.proofs.Written.{encoding-sound, written_read}
+use Rattle.writer.proofs.Written.{written_read}
 
 -- four stores whose first n slots were read from where they had been written
 pub record Restored (n : ℕ) (a b c d ids ids' runs runs' lens lens' offs offs' : List ℕ) : Type 0 where

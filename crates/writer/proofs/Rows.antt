@@ -1,6 +1,6 @@
 -- Examples: tiles 0, 1, 2 and so on, of 5 bytes each, end to end; and how leaf sizes grow. Assumes nothing.
 use Prim.Native.Nat.{ℕ, zero, suc, ◌+◌, ◌-◌, ◌*◌, ◌/◌, ◌≤◌, ◌<◌}
-use mathlib.Core.Path.{◌≡◌, refl, ap, ap₂, sym, ◌∙◌}
+use mathlib.Core.Path.{◌≡◌, refl, ap, sym, ◌∙◌}
 use mathlib.Core.List.{List, [], ◌∷◌, append-nil}
 use mathlib.Core.Option.{Option, none, some}
 use native.Mathlib.Omega.{arith}
@@ -11,7 +11,7 @@ use Rattle.varint.specs.Varint.{put, wide}
 use Rattle.varint.proofs.Shortest.{put_one}
 use Rattle.directory.specs.Entries.{Entry, entry}
 use Rattle.directory.specs.Encode.{code_of, encode}
-use Rattle.writer.specs.Build.{Directories, build, chunks, first_id, leaves_of, pointers, root_room, with_leaves}
+use Rattle.writer.specs.Build.{Directories, build, first_id, with_leaves}
 use Rattle.writer.specs.Cells.{size_from}
 use Rattle.writer.specs.Cuts.{first_size_lem}
 use Rattle.writer.proofs.Chunks.{chunks-nil}

@@ -13,11 +13,10 @@ use Rattle.refusal.specs.Out.{ok}
 use Rattle.directory.specs.Entries.{Entry, Valid, after, entry}
 use Rattle.directory.specs.Decode.{decode}
 use Rattle.directory.specs.Encode.{encode}
-use Rattle.directory.specs.Search.{absent, hit, last_at, later, leaf, search}
+use Rattle.directory.specs.Search.{absent, last_at, later, leaf, search}
 use Rattle.search.proofs.Covers.{none_below}
 use Rattle.writer.specs.Stock.{Stock}
 use Rattle.writer.specs.Build.{Directories, build, chunks, leaves_of, pointers, with_leaves}
-use Rattle.writer.specs.Cuts.{shaped}
 use Rattle.writer.proofs.Chunks.{AllLeaf, Leaf, all-leaf, joined, joined-chunks}
 use Rattle.writer.proofs.Growth.{Shape, flat, leaf-some, leaf_of, leafy, shape}
 use Rattle.writer.proofs.Pointers.{pointers-read, valid-after}

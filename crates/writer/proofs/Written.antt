@@ -6,17 +6,17 @@ use mathlib.Core.Bool.{true}
 use mathlib.Core.Option.{Option, none}
 use native.Mathlib.Omega.{arith}
 use borrow.Author.Tests.{le-leb, lt-leb}
-use lib.ListN.{drop, length}
+use lib.ListN.{length}
 use lib.Seq.{sets, sets-eq}
-use Rattle.refusal.specs.Out.{Out, ok, bad, ◌>>=◌, afterwards}
+use Rattle.refusal.specs.Out.{Out, ok, bad, afterwards}
 use Rattle.refusal.specs.Number.{number_of}
 use Rattle.refusal.specs.declared.Refusal.{Refusal}
 use Rattle.refusal.proofs.OutLaws.{bind_ok, ok-is}
-use Rattle.directory.specs.Entries.{Entry, Valid, max_count}
+use Rattle.directory.specs.Entries.{Valid, max_count}
 use Rattle.directory.specs.Columns.{entries, roomy}
 use Rattle.directory.specs.Encode.{Fitting, encode}
 use Rattle.directory.specs.Decode.{decode}
-use Rattle.directory.specs.Search.{All, counting, shortest, stored}
+use Rattle.directory.specs.Search.{All, counting, stored}
 use Rattle.directory.proofs.Round.{decode-encode}
 use Rattle.writer.specs.Stock.{Narrow, Typed}
 use Rattle.writer.specs.Write.{check_all, encoding}
@@ -25,7 +25,7 @@ use Rattle.writer.specs.Cells.{Ready, part}
 use Rattle.writer.specs.declared.Length.{Length}
 use Rattle.writer.specs.declared.Length.TheVariants as le
 use Rattle.writer.proofs.Coded.{all_sound, all_then}
-use Rattle.directory.proofs.Counting.{counting-sound, counting-then, enough}
+use Rattle.directory.proofs.Counting.{counting-sound, counting-then}
 use Rattle.writer.proofs.Parts.{entries-length, part_length, stored-part}
 use Rattle.writer.proofs.Typed.{all-narrow, all-part}
 

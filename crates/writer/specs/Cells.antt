@@ -1,10 +1,9 @@
 -- Ranges of entries and their bytes: what the contracts of the private functions cite. Assumes nothing.
-use Rattle.std.specs.Prelude.{ℕ, ◌+◌, ◌-◌, ◌^◌, ◌≤◌, ◌<◌, ◌≡◌, List, [], ◌∷◌, map, length}
+use Rattle.std.specs.Prelude.{ℕ, ◌+◌, ◌-◌, ◌≤◌, ◌<◌, ◌≡◌, List, [], ◌∷◌, map, length}
 use Rattle.std.proofs.Math.Option.{Option, none, some}
 use Rattle.std.proofs.lemmas.List.Edits.{sets}
 use Rattle.std.proofs.Math.Seq.{slice}
-use Rattle.refusal.specs.Out.{Out, ok, bad}
-use Rattle.refusal.specs.Number.{number_of}
+use Rattle.refusal.specs.Out.{Out, ok}
 use Rattle.varint.specs.Varint.{narrow, wide}
 use Rattle.directory.specs.Entries.{Entry, after, max_count}
 use Rattle.directory.specs.Columns.{end_of}

@@ -2,7 +2,7 @@
 use Rattle.std.specs.Prelude.{ℕ, zero, suc, ◌+◌, ◌-◌, ◌/◌, ◌<◌, max, min, ◌≡◌, List, [], ◌∷◌, length, replicate}
 use Rattle.directory.specs.Entries.{Entry}
 use Rattle.directory.specs.Encode.{encode}
-use Rattle.writer.specs.Build.{Directories, build, chunks, first_id, leaf_size, leaves_of, pointers, with_leaves}
+use Rattle.writer.specs.Build.{Directories, build, chunks, first_id, leaves_of, pointers, with_leaves}
 use Rattle.writer.specs.Answers.{sizes_of}
 use Rattle.writer.specs.Cells.{part}
 use Rattle.writer.specs.declared.leaves.Plan.{Plan}

@@ -1,5 +1,5 @@
 -- Writing a directory. Assumes nothing.
-use Rattle.std.specs.Prelude.{ℕ, ◌+◌, ◌^◌, List, [], ◌∷◌, leb, ltb, length}
+use Rattle.std.specs.Prelude.{ℕ, ◌+◌, ◌^◌, List, [], ◌∷◌, ltb}
 use Rattle.std.proofs.Math.Option.{Option, none, some}
 use Rattle.refusal.specs.Out.{Out, ok, need}
 use Rattle.directory.specs.Entries.{Entry, after, check_one}

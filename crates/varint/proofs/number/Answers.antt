@@ -1,8 +1,7 @@
 -- `varint::number` meets its contract. The loop keeps `Kept`; the measure is how many bytes another may still follow. Assumes nothing.
 use Prim.Native.Nat.{◌-◌}
 use native.Mathlib.Omega.{arith}
-use borrow.Author.Rules.{rules}
-use Rattle.varint.proofs.Turns.{Kept, cut, ends, fits, large, last, last_fits, start, turn}
+use Rattle.varint.proofs.Turns.{cut, ends, fits, large, last, last_fits, start, turn}
 use Rattle.varint.proofs.number.Goals as goal
 
 pub loop-p-init : goal.loop-p-init

@@ -1,8 +1,5 @@
 -- `varint::number` meets its contract. The loop keeps `Kept`; the measure is how many bytes another may still follow. Assumes nothing.
-use Prim.Native.Nat.{◌-◌}
-use native.Mathlib.Omega.{arith}
-use borrow.Author.Rules.{rules}
-use Rattle.varint.proofs.Turns.{Kept, cut, ends, fits, large, last, last_fits, start, turn}
+use Rattle.varint.proofs.Turns.{Kept}
 use Rattle.varint.proofs.number.Given as goal
 
 abbrev pub invariant-loop-p : goal.invariant-loop-p

@@ -1,13 +1,9 @@
 -- `varint::put_at` meets its contract. The loop keeps that the shortest form of the rest, put at the place, is what is wanted. Assumes nothing.
 use Prim.Native.Nat.{◌+◌, ◌^◌, ◌<◌}
-use mathlib.Core.Path.{◌≡◌, ap, sym, ◌∙◌}
-use native.Mathlib.Numerals.{add-one}
-use native.Mathlib.Omega.{arith}
-use borrow.Author.Rules.{rules}
-use lib.ListN.{length, length-set}
+use mathlib.Core.Path.{◌≡◌}
+use lib.ListN.{length}
 use lib.Seq.{sets}
 use Rattle.varint.specs.Varint.{put, wide}
-use Rattle.varint.proofs.Shortest.{put-more, put_one, put-size}
 use Rattle.varint.proofs.put_at.Given as goal
 
 -- `varint::put_at` meets its contract. The loop keeps that the shortest form of the rest, put at the place, is what is wanted. Assumes nothing.

@@ -4,7 +4,6 @@ use Rattle.refusal.specs.Out.{ok}
 use Rattle.directory.specs.Answers.{said_checked}
 use Rattle.directory.proofs.Counting.{counting-sound}
 use Rattle.acceptance.proofs.Accepts.{counts-are, counts-bad}
-use borrow.Author.Rules.{rules}
 use Rattle.acceptance.proofs.accepting.accept.Goals as goal
 
 pub returns-in-Refused : goal.returns-in-Refused

@@ -2,7 +2,6 @@
 use Prim.Native.Nat.{◌+◌}
 use mathlib.Core.Path.{sym, ◌∙◌}
 use lib.Dec.{leb}
-use borrow.Author.Rules.{rules}
 use Rattle.directory.proofs.Checks.{then-failed, then-passed, then-refused}
 use Rattle.acceptance.proofs.Tiles.{tile-empty, tile-is}
 use Rattle.acceptance.proofs.accepting.check_tile.Goals as goal

@@ -1,5 +1,4 @@
 -- `accepting::check_tiles` meets its contract. The loop keeps that the checks of the rest are those of the whole, and so with the sum of the runs. Assumes nothing.
-use Prim.Native.Nat.{◌+◌, ◌*◌, ◌-◌, ◌^◌, ◌≤◌}
 use mathlib.Core.Path.{◌≡◌, refl, ap, ap₂, sym, ◌∙◌}
 use native.Mathlib.Omega.{arith}
 use lib.ListN.{drop, length}
@@ -7,11 +6,10 @@ use Rattle.refusal.specs.Out.{Out, ok}
 use Rattle.directory.specs.Answers.{said_checked}
 use Rattle.directory.specs.Search.{stored}
 use Rattle.directory.proofs.Slots.{stored-length}
-use Rattle.acceptance.specs.Accept.{addressed, check_tiles_lem}
+use Rattle.acceptance.specs.Accept.{addressed}
 use Rattle.acceptance.specs.Answers.{counts_of}
 use Rattle.acceptance.specs.declared.Counts.{Counts}
 use Rattle.acceptance.proofs.Tiles.{slot_next, slots_end, tiles-bad, tiles-done, tiles-on}
-use borrow.Author.Rules.{rules}
 use Rattle.acceptance.proofs.accepting.check_tiles.Goals as goal
 
 pub loop-i-init : goal.loop-i-init

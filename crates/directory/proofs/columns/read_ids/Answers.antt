@@ -1,13 +1,10 @@
 -- `columns::read_ids` meets its contract. Assumes nothing.
-use Prim.Native.Nat.{◌+◌, ◌-◌, ◌^◌, ◌≤◌, ◌<◌}
+use Prim.Native.Nat.{◌+◌, ◌^◌, ◌≤◌, ◌<◌}
 use mathlib.Core.Path.{ap, sym, ◌∙◌}
 use native.Mathlib.Omega.{arith}
-use borrow.Author.Rules.{rules}
 use borrow.Author.Tests.{le-ltb, lt-ltb}
-use Rattle.varint.specs.Varint.{wide}
 use Rattle.varint.specs.Answers.{said_u64}
-use Rattle.directory.specs.Columns.{id_step}
-use Rattle.directory.proofs.Turns.{Filled, done, refuse, start, stop, turn}
+use Rattle.directory.proofs.Turns.{done, refuse, start, stop, turn}
 use Rattle.directory.proofs.columns.read_ids.Goals as goal
 
 pub loop-i-init : goal.loop-i-init

@@ -1,15 +1,10 @@
 -- `columns::read_offsets` meets its contract. Assumes nothing.
 use Prim.Native.Nat.{◌-◌}
-use mathlib.Core.Path.{ap, refl, sym, ◌∙◌}
 use mathlib.Core.Option.{none}
-use native.Mathlib.Omega.{arith}
 use lib.ListN.{take}
-use borrow.Author.Rules.{rules}
 use Rattle.varint.specs.Varint.{wide}
-use Rattle.varint.specs.Answers.{said_u64}
 use Rattle.directory.specs.Columns.{offset_step}
-use Rattle.directory.specs.Answers.{said_offset}
-use Rattle.directory.proofs.Turns.{Filled, begun, done, offset-refused, offset-taken, offset_state, passed_on, refuse, start, stop, turn}
+use Rattle.directory.proofs.Turns.{Filled, offset_state}
 use Rattle.directory.proofs.columns.read_offsets.Given as goal
 
 abbrev pub invariant-loop-i : goal.invariant-loop-i

@@ -1,12 +1,10 @@
 -- `columns::read_plain` meets its contract. Assumes nothing.
-use Prim.Native.Nat.{◌-◌}
 use mathlib.Core.Path.{ap, refl, sym, ◌∙◌}
 use native.Mathlib.Omega.{arith}
-use borrow.Author.Rules.{rules}
 use Rattle.varint.specs.Varint.{narrow}
 use Rattle.varint.specs.Answers.{said_u32}
 use Rattle.directory.specs.Columns.{plain_step}
-use Rattle.directory.proofs.Turns.{Filled, begun, done, passed_on, start, stop, turn}
+use Rattle.directory.proofs.Turns.{begun, done, passed_on, start, stop, turn}
 use Rattle.directory.proofs.columns.read_plain.Goals as goal
 
 pub returns-in_default : goal.returns-in_default

@@ -1,7 +1,6 @@
 -- `entries::check_entry` meets its contract. Assumes nothing.
 use mathlib.Core.Path.{sym}
 use native.Mathlib.Omega.{arith}
-use borrow.Author.Rules.{rules}
 use Rattle.directory.proofs.Checks.{ends-far, is-empty, is-far, is-good, is-low}
 use Rattle.directory.proofs.entries.check_entry.Goals as goal
 

@@ -1,7 +1,6 @@
 -- `entries::offset_of` meets its contract. Assumes nothing.
 use mathlib.Core.Path.{sym}
 use native.Mathlib.Omega.{arith}
-use borrow.Author.Rules.{rules}
 use Rattle.directory.specs.Columns.{end_of}
 use Rattle.directory.proofs.Offsets.{follows, from-code, is-first, too_far}
 use Rattle.directory.proofs.entries.offset_of.Goals as goal

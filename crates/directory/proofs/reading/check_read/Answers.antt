@@ -1,6 +1,5 @@
 -- `reading::check_read` meets its contract. Assumes nothing.
 use mathlib.Core.Path.{ap, refl, sym, ◌∙◌}
-use borrow.Author.Rules.{rules}
 use Rattle.directory.specs.Answers.{said_checked}
 use Rattle.directory.proofs.Places.{all-passed, not-passed, passed_on}
 use Rattle.directory.proofs.reading.check_read.Goals as goal

@@ -1,7 +1,6 @@
 -- `reading::fill` meets its contract. Assumes nothing.
 use Prim.Native.Nat.{◌≤◌, ◌<◌}
 use mathlib.Core.Path.{ap, subst, sym, ◌∙◌}
-use borrow.Author.Rules.{rules}
 use Rattle.varint.specs.Answers.{said_u64}
 use Rattle.directory.proofs.Kept.{filled-as}
 use Rattle.directory.proofs.Places.{no-count, no_room, the-entries, too_many}
@@ -20,7 +19,6 @@ pub returns-in-Number : goal.returns-in-Number
 returns-in-Number c =
     let a = c.args in
     let q = c.read_entries in
-    
     filled-as q.result
     (the-entries _ a.bytes.now (ap said_u64 (sym c.in-Number.is) ∙ c.read_u64.ensures) c.if-n-gt-MAX_ENTRIES.false (subst (λ m. c.in-Number.count ≤ m) c.least_of.ensures c.if-least_of-n.false))
     a.ids.now q.new.ids a.runs.now q.new.runs a.lengths.now q.new.lengths a.offsets.now q.new.offsets q.ensures

@@ -1,6 +1,4 @@
 -- `reading::read` meets its contract. Assumes nothing.
-use native.Mathlib.Omega.{arith}
-use borrow.Author.Rules.{rules}
 use Rattle.directory.proofs.Kept.{as_read, as-refused}
 use Rattle.directory.proofs.reading.read.Goals as goal
 

@@ -1,6 +1,5 @@
 -- `reading::read_entries` meets its contract. Assumes nothing.
 use native.Mathlib.Omega.{arith}
-use borrow.Author.Rules.{rules}
 use Rattle.directory.proofs.Kept.{filled}
 use Rattle.directory.proofs.Places.{four-columns}
 use Rattle.directory.proofs.reading.read_entries.Goals as goal

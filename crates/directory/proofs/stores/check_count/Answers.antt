@@ -1,7 +1,6 @@
 -- `stores::check_count` meets its contract. Assumes nothing.
 use mathlib.Core.Path.{sym}
 use native.Mathlib.Omega.{arith}
-use borrow.Author.Rules.{rules}
 use Rattle.refusal.specs.Out.{ok}
 use Rattle.directory.proofs.Counting.{enough, many, short}
 use Rattle.directory.proofs.stores.check_count.Goals as goal

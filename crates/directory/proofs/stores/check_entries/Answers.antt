@@ -1,10 +1,8 @@
 -- `stores::check_entries` meets its contract. Assumes nothing.
-use Prim.Native.Nat.{◌-◌}
 use mathlib.Core.Path.{ap, refl, sym, ◌∙◌}
 use native.Mathlib.Omega.{arith}
-use borrow.Author.Rules.{rules}
 use Rattle.directory.specs.Answers.{said_checked}
-use Rattle.directory.proofs.Slots.{Passed, pass-done, pass-stop, pass-turn}
+use Rattle.directory.proofs.Slots.{pass-done, pass-stop, pass-turn}
 use Rattle.directory.proofs.stores.check_entries.Goals as goal
 
 pub loop-i-init : goal.loop-i-init

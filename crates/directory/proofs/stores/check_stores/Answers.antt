@@ -1,7 +1,6 @@
 -- `stores::check_stores` meets its contract. Assumes nothing.
 use mathlib.Core.Path.{ap}
 use native.Mathlib.Omega.{arith}
-use borrow.Author.Rules.{rules}
 use Rattle.directory.specs.Answers.{said_checked}
 use Rattle.directory.proofs.Counting.{count_fits, count-passed, count-refused}
 use Rattle.directory.proofs.stores.check_stores.Goals as goal

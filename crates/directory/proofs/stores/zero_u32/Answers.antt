@@ -1,9 +1,6 @@
 -- `stores::zero_u32` meets its contract. Assumes nothing.
-use Prim.Native.Nat.{◌-◌, ◌≤◌}
 use native.Mathlib.Omega.{arith}
-use lib.ListN.{length}
-use borrow.Author.Rules.{rules}
-use Rattle.directory.proofs.Kept.{Zeroed, zero-done, zero-start, zero_turn}
+use Rattle.directory.proofs.Kept.{zero-done, zero-start, zero_turn}
 use Rattle.directory.proofs.stores.zero_u32.Goals as goal
 
 pub loop-i-init : goal.loop-i-init

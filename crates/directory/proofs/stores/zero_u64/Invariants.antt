@@ -1,9 +1,7 @@
 -- `stores::zero_u64` meets its contract. Assumes nothing.
 use Prim.Native.Nat.{◌-◌, ◌≤◌}
-use native.Mathlib.Omega.{arith}
 use lib.ListN.{length}
-use borrow.Author.Rules.{rules}
-use Rattle.directory.proofs.Kept.{Zeroed, zero-done, zero-start, zero_turn}
+use Rattle.directory.proofs.Kept.{Zeroed}
 use Rattle.directory.proofs.stores.zero_u64.Given as goal
 
 abbrev pub invariant-loop-i : goal.invariant-loop-i

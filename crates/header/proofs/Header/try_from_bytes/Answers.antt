@@ -2,7 +2,6 @@
 use mathlib.Core.Path.{sym, ◌∙◌}
 use borrow.Author.Tests.{le-leb, lt-leb}
 use Rattle.header.specs.Header.{read_header}
-use borrow.Author.Rules.{rules}
 use Rattle.header.proofs.Header.try_from_bytes.Goals as goal
 
 pub returns-then-bytes-lt7 : goal.returns-then-bytes-lt7

@@ -8,7 +8,6 @@ use lib.Seq.{sets, sets-eq}
 use Rattle.header.specs.Bytes.{bytes_of}
 use Rattle.header.specs.Header.{header_bytes, header_fields, write_header}
 use Rattle.header.specs.declared.Header.{Header}
-use borrow.Author.Rules.{rules}
 use Rattle.header.proofs.Header.write_to.Goals as goal
 
 -- a header stored from the first byte on

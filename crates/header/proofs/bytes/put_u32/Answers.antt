@@ -3,7 +3,6 @@ use native.Mathlib.Numerals.{towards_suc}
 use native.Mathlib.Omega.{arith}
 use lib.ListN.{length-set}
 use Rattle.header.specs.Bytes.{bytes_of}
-use borrow.Author.Rules.{rules}
 use Rattle.header.proofs.bytes.put_u32.Goals as goal
 
 pub bounds-out-at-2 : goal.bounds-out-at-2

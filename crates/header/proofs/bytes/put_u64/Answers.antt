@@ -8,7 +8,6 @@ use lib.Seq.{sets}
 use Rattle.header.specs.Bytes.{bytes_of}
 use Rattle.header.proofs.LittleEndian.{bytes-split}
 use Rattle.header.proofs.Stores.{sets-append}
-use borrow.Author.Rules.{rules}
 use Rattle.header.proofs.bytes.put_u64.Goals as goal
 
 -- the eight bytes of v are the four of its lower half and the four of its upper

@@ -1,7 +1,6 @@
 -- `u32_at` meets its contract. Assumes nothing.
 use native.Mathlib.Omega.{arith}
 use Rattle.header.proofs.LittleEndian.{four_bytes}
-use borrow.Author.Rules.{rules}
 use Rattle.header.proofs.bytes.u32_at.Goals as goal
 
 pub returns : goal.returns

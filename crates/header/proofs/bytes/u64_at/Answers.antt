@@ -1,7 +1,6 @@
 -- `u64_at` meets its contract: it is two halves of four bytes. Assumes nothing.
 use native.Mathlib.Omega.{arith}
 use Rattle.header.proofs.LittleEndian.{number-split}
-use borrow.Author.Rules.{rules}
 use Rattle.header.proofs.bytes.u64_at.Goals as goal
 
 pub returns : goal.returns

@@ -4,7 +4,6 @@ use mir.Syntax.{w32}
 use mir.ValLaws.{to_z-of_z}
 use Rattle.degrees.specs.Degrees.{degrees_of_lem}
 use Rattle.header.specs.Bytes.{signed_of}
-use borrow.Author.Rules.{rules}
 use Rattle.header.proofs.coordinates.degree_at.Goals as goal
 
 pub returns : goal.returns

@@ -5,7 +5,6 @@ use lib.Seq.{sets}
 use mir.Syntax.{w32}
 use mir.ValLaws.{to_z-of_z}
 use Rattle.header.specs.Bytes.{bits_of_lem, bytes_of}
-use borrow.Author.Rules.{rules}
 use Rattle.header.proofs.coordinates.put_degree.Goals as goal
 
 pub returns : goal.returns

@@ -1,6 +1,5 @@
 -- `degrees_at` meets its contract. Assumes nothing.
 use Rattle.header.specs.Header.{degrees_at_lem}
-use borrow.Author.Rules.{rules}
 use Rattle.header.proofs.read.degrees_at.Goals as goal
 
 pub returns : goal.returns

@@ -2,7 +2,6 @@
 use lib.Dec.{eqb}
 use Rattle.header.specs.Bytes.{byte_at}
 use Rattle.header.specs.Header.{fields_of}
-use borrow.Author.Rules.{rules}
 use Rattle.header.proofs.read.fields_of.Goals as goal
 
 pub returns : goal.returns

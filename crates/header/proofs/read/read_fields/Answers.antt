@@ -3,7 +3,6 @@ use mathlib.Core.Path.{ap}
 use borrow.Author.Tests.{le-leb, lt-leb}
 use Rattle.refusal.specs.Out.{ok}
 use Rattle.header.specs.Header.{read_fields_lem}
-use borrow.Author.Rules.{rules}
 use Rattle.header.proofs.read.read_fields.Goals as goal
 
 pub returns-then-bytes-lt98 : goal.returns-then-bytes-lt98

@@ -6,7 +6,6 @@ use mathlib.Core.List.{flatten}
 use mathlib.Core.Path.{◌≡◌, refl}
 use mir.Val.{bool_byte}
 use Rattle.header.specs.Header.{flag, header_fields}
-use borrow.Author.Rules.{rules}
 use Rattle.header.proofs.write.put_codes.Goals as goal
 
 flag-byte : (b : Bool) → bool_byte b ≡ flag b

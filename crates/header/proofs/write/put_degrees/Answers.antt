@@ -4,7 +4,6 @@ use mathlib.Core.List.{flatten}
 use lib.ListN.{length-set}
 use Rattle.header.specs.Bytes.{bytes_of}
 use Rattle.header.specs.Header.{header_fields}
-use borrow.Author.Rules.{rules}
 use Rattle.header.proofs.write.put_degrees.Goals as goal
 
 pub put_position-requires-3 : goal.put_position-requires-3

@@ -2,7 +2,6 @@
 use Rattle.header.specs.Bytes.{bytes_of}
 use Rattle.header.specs.Header.{u64}
 use Rattle.header.proofs.Stores.{sets-append}
-use borrow.Author.Rules.{rules}
 use Rattle.header.proofs.write.put_section.Goals as goal
 
 pub returns : goal.returns

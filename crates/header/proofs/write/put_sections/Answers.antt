@@ -2,7 +2,6 @@
 use mathlib.Core.List.{flatten}
 use Rattle.header.specs.Bytes.{bytes_of}
 use Rattle.header.specs.Header.{header_fields}
-use borrow.Author.Rules.{rules}
 use Rattle.header.proofs.write.put_sections.Goals as goal
 
 pub returns : goal.returns

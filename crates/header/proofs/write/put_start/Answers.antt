@@ -4,7 +4,6 @@ use lib.ListN.{length-set}
 use mathlib.Core.List.{flatten}
 use mathlib.Core.Path.{refl}
 use Rattle.header.specs.Header.{header_fields}
-use borrow.Author.Rules.{rules}
 use Rattle.header.proofs.write.put_start.Goals as goal
 
 pub bounds-out-1 : goal.bounds-out-1

@@ -3,7 +3,6 @@ use mathlib.Core.List.{List, ◌++◌, append-nil}
 use mathlib.Core.Path.{◌≡◌, ◌∙◌}
 use Prim.Native.Nat.{ℕ}
 use lib.ListN.{drop, replicate}
-use borrow.Author.Rules.{rules}
 use Rattle.refusal.specs.Out.{ok, afterwards}
 use Rattle.header.specs.Header.{header_bytes, write_header}
 use Rattle.header.specs.declared.Header.{Header}

@@ -1,6 +1,5 @@
 -- `head::heading` meets its contract. Assumes nothing.
 use mathlib.Core.Path.{refl}
-use borrow.Author.Rules.{rules}
 use borrow.Author.Tests.{eq-eqb, ne_eqb}
 use Rattle.publisher.specs.Plan.{header_for}
 use Rattle.publisher.proofs.head.heading.Goals as goal

@@ -2,7 +2,6 @@
 use mathlib.Core.Path.{sym, ap, ◌∙◌}
 use Prim.Native.Nat.{ℕ, ◌+◌}
 use native.Mathlib.Omega.{arith}
-use borrow.Author.Rules.{rules}
 use Rattle.refusal.specs.Out.{Out, ◌>>=◌}
 use Rattle.publisher.specs.Answers.{said_total}
 use Rattle.publisher.specs.Publish.{advancing}

@@ -1,6 +1,5 @@
 -- `publishing::advance` meets its contract. Assumes nothing.
 use native.Mathlib.Omega.{arith}
-use borrow.Author.Rules.{rules}
 use Rattle.publisher.proofs.Admitted.{room-short, position-large, advances}
 use Rattle.publisher.proofs.publishing.advance.Goals as goal
 

@@ -1,6 +1,5 @@
 -- `publishing::fill` meets its contract: what is done behind the root and what is done from it on make the plan's stores. Assumes nothing.
 use lib.ListN.{length}
-use borrow.Author.Rules.{rules}
 use Rattle.header.specs.Header.{header_bytes}
 use Rattle.publisher.specs.Plan.{header_for, stores}
 use Rattle.publisher.proofs.Admitted.{writable}

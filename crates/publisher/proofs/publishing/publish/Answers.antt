@@ -2,7 +2,6 @@
 use mathlib.Core.List.{List}
 use mathlib.Core.Path.{◌≡◌, sym, ap, ◌∙◌}
 use Prim.Native.Nat.{ℕ}
-use borrow.Author.Rules.{rules}
 use Rattle.refusal.specs.Out.{Out, afterwards}
 use Rattle.publisher.specs.Answers.{said_published}
 use Rattle.publisher.proofs.Admitted.{admitted}

@@ -1,6 +1,5 @@
 -- `publishing::total` meets its contract: what is left of 2 ^ 64 - 1 after each length decides. Assumes nothing.
 use native.Mathlib.Omega.{arith}
-use borrow.Author.Rules.{rules}
 use Rattle.publisher.proofs.Admitted.{sum-large, root-large, totalled}
 use Rattle.publisher.proofs.publishing.total.Goals as goal
 

@@ -1,10 +1,9 @@
 -- `sections::clear` meets its contract, as `section` does. Assumes nothing.
 use mathlib.Core.Path.{◌≡◌, refl, ap, ◌∙◌}
-use Prim.Native.Nat.{ℕ, ◌+◌, ◌-◌, ◌≤◌, ◌<◌, min}
+use Prim.Native.Nat.{ℕ, ◌+◌, ◌-◌, ◌<◌, min}
 use native.Mathlib.Omega.{arith}
 use native.Mathlib.Numerals.{add-one}
-use lib.ListN.{length, length-set}
-use borrow.Author.Rules.{rules}
+use lib.ListN.{length-set}
 use Rattle.publisher.specs.Plan.{stored_from, upward, zeros}
 use Rattle.publisher.proofs.Stores.{made, clear_next, clear-done}
 use Rattle.publisher.proofs.sections.clear.Goals as goal

@@ -1,12 +1,8 @@
 -- `sections::clear` meets its contract, as `section` does. Assumes nothing.
-use mathlib.Core.Path.{◌≡◌, refl, ap, ◌∙◌}
-use Prim.Native.Nat.{ℕ, ◌+◌, ◌-◌, ◌≤◌, ◌<◌, min}
-use native.Mathlib.Omega.{arith}
-use native.Mathlib.Numerals.{add-one}
-use lib.ListN.{length, length-set}
-use borrow.Author.Rules.{rules}
+use mathlib.Core.Path.{◌≡◌}
+use Prim.Native.Nat.{◌-◌, ◌≤◌}
+use lib.ListN.{length}
 use Rattle.publisher.specs.Plan.{stored_from, upward, zeros}
-use Rattle.publisher.proofs.Stores.{made, clear_next, clear-done}
 use Rattle.publisher.proofs.sections.clear.Given as goal
 
 abbrev pub invariant-loop-k : goal.invariant-loop-k

@@ -1,5 +1,4 @@
 -- `sections::fill_behind` meets its contract: the sections in order make the part of the plan. Assumes nothing.
-use borrow.Author.Rules.{rules}
 use Rattle.publisher.proofs.Runs.{behind-cut, behind-run}
 use Rattle.publisher.proofs.sections.fill_behind.Goals as goal
 

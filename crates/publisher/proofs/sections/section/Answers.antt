@@ -1,10 +1,9 @@
 -- `sections::section` meets its contract. The loop's invariant: after k turns the destination is what k stores from skip leave. Assumes nothing.
 use mathlib.Core.Path.{◌≡◌, refl, ap, ◌∙◌}
-use Prim.Native.Nat.{ℕ, ◌+◌, ◌-◌, ◌≤◌, ◌<◌, min}
+use Prim.Native.Nat.{ℕ, ◌+◌, ◌-◌, ◌<◌, min}
 use native.Mathlib.Omega.{arith}
 use native.Mathlib.Numerals.{add-one}
 use lib.ListN.{length, length-set}
-use borrow.Author.Rules.{rules}
 use Rattle.publisher.specs.Plan.{stored_from, upward}
 use Rattle.publisher.proofs.Stores.{section-next, section-done, made}
 use Rattle.publisher.proofs.sections.section.Goals as goal

@@ -1,12 +1,8 @@
 -- `sections::section` meets its contract. The loop's invariant: after k turns the destination is what k stores from skip leave. Assumes nothing.
-use mathlib.Core.Path.{◌≡◌, refl, ap, ◌∙◌}
-use Prim.Native.Nat.{ℕ, ◌+◌, ◌-◌, ◌≤◌, ◌<◌, min}
-use native.Mathlib.Omega.{arith}
-use native.Mathlib.Numerals.{add-one}
-use lib.ListN.{length, length-set}
-use borrow.Author.Rules.{rules}
+use mathlib.Core.Path.{◌≡◌}
+use Prim.Native.Nat.{◌-◌, ◌≤◌}
+use lib.ListN.{length}
 use Rattle.publisher.specs.Plan.{stored_from, upward}
-use Rattle.publisher.proofs.Stores.{section-next, section-done, made}
 use Rattle.publisher.proofs.sections.section.Given as goal
 
 abbrev pub invariant-loop-k : goal.invariant-loop-k

@@ -1,11 +1,7 @@
 -- `descent::descend` meets its contract. Assumes nothing.
 use Prim.Native.Nat.{◌≤◌}
-use mathlib.Core.Path.{◌∙◌, ap, refl}
-use native.Mathlib.Omega.{arith}
-use borrow.Author.Rules.{rules}
-use Rattle.reader.specs.Lookup.{located}
 use Rattle.reader.specs.Answers.{sections_given}
-use Rattle.reader.proofs.Descents.{Going, ends-absent, ends-bad, ends-deep, ends-outside, ends-tile, goes_on}
+use Rattle.reader.proofs.Descents.{Going}
 use Rattle.reader.proofs.descent.descend.Given as goal
 
 abbrev pub invariant-loop-e : goal.invariant-loop-e

@@ -1,6 +1,5 @@
 -- `descent::found` meets its contract. Assumes nothing.
 use mathlib.Core.Path.{ap, sym}
-use borrow.Author.Rules.{rules}
 use Rattle.reader.specs.Lookup.{located}
 use Rattle.reader.specs.Answers.{said_ranged}
 use Rattle.reader.specs.declared.Ranged.{Ranged}

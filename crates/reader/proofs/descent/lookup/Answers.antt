@@ -1,6 +1,5 @@
 -- `descent::lookup` meets its contract. Assumes nothing.
 use mathlib.Core.Path.{◌∙◌, sym}
-use borrow.Author.Rules.{rules}
 use Rattle.reader.proofs.Inside.{root_in}
 use Rattle.reader.proofs.Lookups.{from-root, no-id, not_opened}
 use Rattle.reader.proofs.descent.lookup.Goals as goal

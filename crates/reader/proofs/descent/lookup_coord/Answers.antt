@@ -1,6 +1,5 @@
 -- `descent::lookup_coord` meets its contract. Assumes nothing.
 use mathlib.Core.Path.{◌∙◌}
-use borrow.Author.Rules.{rules}
 use Rattle.reader.proofs.Lookups.{coord-is-id, no-coord}
 use Rattle.reader.proofs.descent.lookup_coord.Goals as goal
 

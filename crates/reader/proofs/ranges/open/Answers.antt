@@ -1,6 +1,5 @@
 -- `ranges::open` meets its contract. Assumes nothing.
 use mathlib.Core.Path.{◌∙◌}
-use borrow.Author.Rules.{rules}
 use Rattle.reader.proofs.Inside.{opened-bad, opened-by}
 use Rattle.reader.proofs.ranges.open.Goals as goal
 

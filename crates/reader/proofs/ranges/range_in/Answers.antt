@@ -1,7 +1,6 @@
 -- `ranges::range_in` meets its contract. Assumes nothing.
 use mathlib.Core.Path.{sym}
 use native.Mathlib.Omega.{arith}
-use borrow.Author.Rules.{rules}
 use Rattle.directory.specs.Answers.{entry_of}
 use Rattle.reader.specs.Answers.{section_of}
 use Rattle.reader.proofs.Inside.{in-range, past-archive, past-section}

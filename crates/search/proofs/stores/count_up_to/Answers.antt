@@ -1,8 +1,5 @@
 -- `stores::count_up_to` meets its contract. Assumes nothing.
-use Prim.Native.Nat.{◌-◌}
 use native.Mathlib.Omega.{arith}
-use borrow.Author.Rules.{rules}
-use Rattle.search.specs.Halving.{Between}
 use Rattle.search.proofs.Halving.{lowered, met, raised}
 use Rattle.search.proofs.stores.count_up_to.Goals as goal
 

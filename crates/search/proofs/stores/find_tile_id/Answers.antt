@@ -1,7 +1,6 @@
 -- `stores::find_tile_id` meets its contract. Assumes nothing.
 use mathlib.Core.Path.{ap, sym, ◌∙◌}
 use native.Mathlib.Omega.{arith}
-use borrow.Author.Rules.{rules}
 use Rattle.directory.specs.Answers.{said_checked}
 use Rattle.search.proofs.Finding.{holds, no-entries, no_target, searched}
 use Rattle.search.proofs.stores.find_tile_id.Goals as goal

@@ -1,7 +1,6 @@
 -- `stores::search_in` meets its contract. Assumes nothing.
 use mathlib.Core.Path.{◌∙◌}
 use native.Mathlib.Omega.{arith}
-use borrow.Author.Rules.{rules}
 use Rattle.search.proofs.Finding.{none_found, one_found}
 use Rattle.search.proofs.stores.search_in.Goals as goal
 

@@ -1,6 +1,5 @@
 -- `TileCoord::new` meets its contract. Assumes nothing.
 use mathlib.Core.Path.{sym, ◌∙◌}
-use borrow.Author.Rules.{rules}
 use Rattle.tile.specs.Answers.{new_coord}
 use Rattle.tile.proofs.TileCoord.new.Goals as goal
 

@@ -1,7 +1,6 @@
 -- `TileCoord::to_id` meets its contract. Assumes nothing.
 use mathlib.Core.Path.{sym, ◌∙◌}
 use native.Mathlib.Omega.{arith}
-use borrow.Author.Rules.{rules}
 use Rattle.tile.specs.Tile.{tile_id_lem}
 use Rattle.tile.specs.Answers.{to_id}
 use Rattle.tile.proofs.Ids.{valid-of, id_below}

@@ -1,6 +1,5 @@
 -- `TileId::to_coord` meets its contract. Assumes nothing.
 use native.Mathlib.Omega.{arith}
-use borrow.Author.Rules.{rules}
 use borrow.Author.Tests.{le-leb, lt-leb}
 use Rattle.tile.specs.Tile.{coord_of_lem, zoom_of}
 use Rattle.tile.specs.Answers.{to_coord_lem}

@@ -1,5 +1,4 @@
 -- `TileId::zoom` meets its contract. Assumes nothing.
-use borrow.Author.Rules.{rules}
 use borrow.Author.Tests.{le-leb, lt-leb}
 use Rattle.tile.specs.Answers.{to_zoom}
 use Rattle.tile.proofs.TileId.zoom.Goals as goal

@@ -1,9 +1,8 @@
 -- `hilbert::index_of` meets its contract. Assumes nothing.
-use Prim.Native.Nat.{◌-◌, suc, ◌+◌, ◌*◌, ◌^◌, ◌<◌, ◌≤◌}
+use Prim.Native.Nat.{◌-◌, suc, ◌+◌}
 use mathlib.Core.Path.{◌∙◌, ◌≡◌}
 use native.Mathlib.Nat.{pow-le-pow_right, zero-lt-suc}
 use native.Mathlib.Omega.{arith}
-use borrow.Author.Rules.{rules}
 use Rattle.tile.specs.Tile.{index}
 use Rattle.tile.proofs.Curve.{gathered-le, index-lt}
 use Rattle.tile.proofs.hilbert.index_of.Goals as goal

@@ -2,7 +2,6 @@
 use Prim.Native.Nat.{◌^◌}
 use native.Mathlib.Omega.{arith}
 use borrow.Author.Tests.{le-leb, lt-leb, lt-ltb, le-ltb}
-use borrow.Author.Rules.{rules}
 use Rattle.tile.proofs.hilbert.is_coord.Goals as goal
 
 pub returns-then-z-gt31 : goal.returns-then-z-gt31

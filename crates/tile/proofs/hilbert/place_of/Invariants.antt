@@ -1,11 +1,7 @@
 -- `hilbert::place_of` meets its contract. Assumes nothing.
 use Prim.Native.Nat.{◌-◌, ◌^◌, ◌%◌, ◌≤◌}
-use mathlib.Core.Path.{◌∙◌, ◌≡◌, refl}
-use native.Mathlib.Nat.{mod-lt, mod-eq_of_lt, zero-lt-suc}
-use native.Mathlib.Omega.{arith}
-use borrow.Author.Rules.{rules}
+use mathlib.Core.Path.{◌≡◌}
 use Rattle.tile.specs.Tile.{place}
-use Rattle.tile.proofs.Curve.{inside_of, place_up}
 use Rattle.tile.proofs.hilbert.place_of.Given as goal
 
 abbrev pub invariant-loop-i : goal.invariant-loop-i

@@ -1,7 +1,6 @@
 -- `hilbert::power` meets its contract. Assumes nothing.
 use native.Mathlib.Nat.{one-mul, mod-eq_of_lt}
 use lib.Pow.{pow-lt}
-use borrow.Author.Rules.{rules}
 use Rattle.tile.proofs.hilbert.power.Goals as goal
 
 pub returns : goal.returns

@@ -1,6 +1,5 @@
 -- `hilbert::step` meets its contract. Assumes nothing.
 use native.Mathlib.Omega.{arith}
-use borrow.Author.Rules.{rules}
 use Rattle.tile.proofs.Curve.{below_half, bit_le, walked}
 use Rattle.tile.proofs.hilbert.step.Goals as goal
 

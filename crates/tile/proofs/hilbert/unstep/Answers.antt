@@ -1,5 +1,4 @@
 -- `hilbert::unstep` meets its contract. Assumes nothing.
-use borrow.Author.Rules.{rules}
 use Rattle.tile.proofs.Curve.{unstep-fits, unwalked}
 use Rattle.tile.proofs.hilbert.unstep.Goals as goal
 

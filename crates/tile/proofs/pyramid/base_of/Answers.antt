@@ -4,7 +4,6 @@ use mathlib.Core.Path.{◌≡◌}
 use native.Mathlib.Nat.{one-mul, mod-eq_of_lt}
 use native.Mathlib.Omega.{arith}
 use lib.Pow.{pow-lt}
-use borrow.Author.Rules.{rules}
 use Rattle.tile.specs.Tile.{base}
 use Rattle.tile.proofs.Curve.{four-pos, four-two}
 use Rattle.tile.proofs.pyramid.base_of.Goals as goal

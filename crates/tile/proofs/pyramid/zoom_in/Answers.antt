@@ -1,9 +1,7 @@
 -- `pyramid::zoom_in` meets its contract: the zoom lies in the `width` zooms from z on. Assumes nothing.
-use Prim.Native.Nat.{ℕ, suc, ◌+◌, ◌-◌, ◌/◌, ◌≤◌, ◌<◌}
+use Prim.Native.Nat.{ℕ, suc, ◌+◌, ◌-◌, ◌/◌}
 use mathlib.Core.Path.{◌≡◌}
 use native.Mathlib.Omega.{arith}
-use borrow.Author.Rules.{rules}
-use Rattle.tile.specs.Tile.{base}
 use Rattle.tile.proofs.Zooms.{largest, three-base, zoom-at}
 use Rattle.tile.proofs.pyramid.zoom_in.Goals as goal
 

@@ -1,6 +1,5 @@
 -- `varint::Cursor::read_u32` meets its contract: what the narrow width holds fits a u32. Assumes nothing.
 use mathlib.Core.Path.{ap, sym, ◌∙◌}
-use borrow.Author.Rules.{rules}
 use Rattle.varint.specs.Varint.{narrow}
 use Rattle.varint.specs.Answers.{said_u64}
 use Rattle.varint.proofs.Reading.{bound_at}

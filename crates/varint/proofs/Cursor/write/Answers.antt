@@ -1,7 +1,6 @@
 -- `varint::Cursor::write` meets its contract. Assumes nothing.
 use mathlib.Core.Path.{ap, sym, ◌∙◌}
 use native.Mathlib.Omega.{arith}
-use borrow.Author.Rules.{rules}
 use Rattle.refusal.specs.Out.{ok}
 use Rattle.varint.proofs.Writing.{write-fits, write-short}
 use Rattle.varint.proofs.Cursor.write.Goals as goal

@@ -1,6 +1,5 @@
 -- `cursors::id_at` meets its contract. Assumes nothing.
 use native.Mathlib.Omega.{arith}
-use borrow.Author.Rules.{rules}
 use Rattle.walk.proofs.Past.{id-over, id-sum, steps, stuck, unread}
 use Rattle.walk.proofs.cursors.id_at.Goals as goal
 

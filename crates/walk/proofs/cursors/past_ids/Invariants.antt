@@ -1,11 +1,8 @@
 -- `cursors::past_ids` meets its contract: from any turn on the rest of the column ends where the whole ends. Assumes nothing.
-use mathlib.Core.Path.{◌≡◌, refl, sym, ◌∙◌}
-use native.Mathlib.Omega.{arith}
-use borrow.Author.Rules.{rules}
+use mathlib.Core.Path.{◌≡◌}
 use Rattle.varint.specs.Varint.{wide}
 use Rattle.directory.specs.Columns.{id_step}
 use Rattle.walk.specs.Walk.{past}
-use Rattle.walk.proofs.Past.{done, more, stops}
 use Rattle.walk.proofs.cursors.past_ids.Given as goal
 
 abbrev pub invariant-loop-left : goal.invariant-loop-left

@@ -1,10 +1,6 @@
 -- `cursors::past_numbers` meets its contract: from any turn on the rest of the column ends where the whole ends. Assumes nothing.
-use mathlib.Core.Path.{◌≡◌, refl, sym, ◌∙◌}
+use mathlib.Core.Path.{refl, sym, ◌∙◌}
 use native.Mathlib.Omega.{arith}
-use borrow.Author.Rules.{rules}
-use Rattle.varint.specs.Varint.{narrow}
-use Rattle.directory.specs.Columns.{plain_step}
-use Rattle.walk.specs.Walk.{past}
 use Rattle.walk.proofs.Past.{done, more, steps, stops, unread}
 use Rattle.walk.proofs.cursors.past_numbers.Goals as goal
 

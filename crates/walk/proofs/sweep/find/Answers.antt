@@ -1,7 +1,6 @@
 -- `sweep::find` meets its contract. Assumes nothing.
 use mathlib.Core.Path.{◌∙◌}
 use native.Mathlib.Omega.{arith}
-use borrow.Author.Rules.{rules}
 use Rattle.walk.proofs.Sweeps.{find-bad, find-far, find-open}
 use Rattle.walk.proofs.sweep.find.Goals as goal
 

@@ -1,7 +1,6 @@
 -- `sweep::hit_of` meets its contract: an id at most the target is taken as it is. Assumes nothing.
 use mathlib.Core.Path.{◌∙◌}
 use native.Mathlib.Omega.{arith}
-use borrow.Author.Rules.{rules}
 use Rattle.search.proofs.Hits.{answered}
 use Rattle.walk.proofs.sweep.hit_of.Goals as goal
 

@@ -1,12 +1,8 @@
 -- `sweep::sweep` meets its contract. The loop keeps `Sweeping`, and that the kept row is not above the target. Assumes nothing.
 use Prim.Native.Nat.{◌≤◌}
-use mathlib.Core.Path.{◌∙◌}
-use native.Mathlib.Omega.{arith}
-use borrow.Author.Rules.{rules}
 use Rattle.refusal.specs.Number.{number_of}
 use Rattle.walk.specs.Walk.{kept_if, row_entry}
-use Rattle.walk.proofs.Walks.{next-less}
-use Rattle.walk.proofs.Sweeps.{Sweeping, fails, faulty, found, keeps, passed, refused, skips, start}
+use Rattle.walk.proofs.Sweeps.{Sweeping}
 use Rattle.walk.proofs.sweep.sweep.Given as goal
 
 abbrev pub invariant-loop-row : goal.invariant-loop-row

@@ -4,7 +4,6 @@ use lib.ListN.{length}
 use Rattle.acceptance.specs.Answers.{counts_of, said_accepted}
 use Rattle.writer.specs.Answers.{building}
 use Rattle.writer.proofs.Finished.{accepted-ready, building-bad, building-from, refused}
-use borrow.Author.Rules.{rules}
 use Rattle.writer.proofs.building.build.Goals as goal
 
 pub returns-in-Refused : goal.returns-in-Refused

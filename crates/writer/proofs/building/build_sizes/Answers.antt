@@ -2,7 +2,6 @@
 use mathlib.Core.Path.{ap, sym, ◌∙◌}
 use Rattle.acceptance.specs.Answers.{said_accepted}
 use Rattle.writer.proofs.Finished.{accepted-ready, sizes-are, sizes-bad}
-use borrow.Author.Rules.{rules}
 use Rattle.writer.proofs.building.build_sizes.Goals as goal
 
 pub returns-in-Refused : goal.returns-in-Refused

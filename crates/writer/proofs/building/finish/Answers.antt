@@ -8,7 +8,6 @@ use Rattle.writer.specs.Answers.{fitted}
 use Rattle.writer.specs.Cells.{part}
 use Rattle.writer.proofs.Finished.{both-fit, built-flat, built-split, finished, fitted-sound, no_room, refused}
 use Rattle.writer.proofs.Stocks.{stock-ready}
-use borrow.Author.Rules.{rules}
 use Rattle.writer.proofs.building.finish.Goals as goal
 
 pub plan-p-requires : goal.plan-p-requires

@@ -1,10 +1,8 @@
 -- `building::plan` meets its contract. Assumes nothing.
-use mathlib.Core.Path.{◌∙◌}
 use native.Mathlib.Omega.{arith}
 use Rattle.directory.specs.Columns.{entries}
 use Rattle.writer.proofs.Plans.{plan-flat, plan-large, plan-many}
 use Rattle.writer.proofs.Stocks.{stock-ready}
-use borrow.Author.Rules.{rules}
 use Rattle.writer.proofs.building.plan.Goals as goal
 
 pub choose-requires : goal.choose-requires

@@ -1,14 +1,12 @@
 -- `columns::put_entries` meets its contract: column by column, what is put and what is still to come are the whole. Assumes nothing.
-use Prim.Native.Nat.{ℕ, ◌+◌, ◌≤◌}
+use Prim.Native.Nat.{ℕ}
 use mathlib.Core.List.{List}
 use native.Mathlib.Omega.{arith}
-use lib.ListN.{drop, length}
 use Rattle.directory.specs.Columns.{entries}
 use Rattle.directory.specs.Encode.{encode}
 use Rattle.writer.specs.Cells.{Ready, part}
 use Rattle.writer.proofs.Parts.{codes-below, columns_of, encode-part, entries-length, ids-rise}
 use Rattle.writer.proofs.Puts.{Kept, begin, done, onward, room}
-use borrow.Author.Rules.{rules}
 use Rattle.writer.proofs.columns.put_entries.Goals as goal
 
 -- nothing is put yet

@@ -1,15 +1,10 @@
 -- `columns::put_ids` meets its contract. Assumes nothing.
-use Prim.Native.Nat.{◌+◌, ◌-◌, ◌≤◌}
-use mathlib.Core.List.{[], ◌∷◌}
 use mathlib.Core.Path.{refl, ap}
-use native.Mathlib.Omega.{arith}
-use lib.ListN.{get_or}
-use Rattle.varint.specs.Varint.{put, wide}
+use Rattle.varint.specs.Varint.{wide}
 use Rattle.directory.specs.Encode.{put_all}
-use Rattle.writer.specs.Cells.{Rising, deltas, part}
+use Rattle.writer.specs.Cells.{deltas}
 use Rattle.writer.proofs.Parts.{part-more, part_none}
-use Rattle.writer.proofs.Puts.{Kept, begin, last_empty, number, onward, room}
-use borrow.Author.Rules.{rules}
+use Rattle.writer.proofs.Puts.{begin, last_empty, number, onward, room}
 use Rattle.writer.proofs.columns.put_ids.Goals as goal
 
 pub loop-i-init : goal.loop-i-init

@@ -5,7 +5,6 @@ use native.Mathlib.Omega.{arith}
 use Rattle.refusal.proofs.OutLaws.{ok-is}
 use Rattle.varint.specs.Answers.{said_written}
 use Rattle.varint.proofs.Writing.{write-fits}
-use borrow.Author.Rules.{rules}
 use Rattle.writer.proofs.columns.put_number.Goals as goal
 
 pub returns-in-Next : goal.returns-in-Next

@@ -1,15 +1,10 @@
 -- `columns::put_numbers` meets its contract: a u32 has the same shortest form at both widths. Assumes nothing.
 use Prim.Native.Nat.{◌-◌}
 use mathlib.Core.List.{[], ◌∷◌}
-use mathlib.Core.Path.{refl, ap, ◌∙◌}
-use lib.ListN.{get_or}
-use Rattle.varint.specs.Varint.{narrow, put, wide}
+use Rattle.varint.specs.Varint.{narrow}
 use Rattle.directory.specs.Encode.{put_all}
 use Rattle.writer.specs.Cells.{part}
-use Rattle.writer.proofs.Lengths.{narrow-is}
-use Rattle.writer.proofs.Parts.{part-more, part_none}
-use Rattle.writer.proofs.Puts.{Kept, begin, last_empty, number, onward, room}
-use borrow.Author.Rules.{rules}
+use Rattle.writer.proofs.Puts.{Kept}
 use Rattle.writer.proofs.columns.put_numbers.Given as goal
 
 abbrev pub invariant-loop-i : goal.invariant-loop-i

@@ -1,15 +1,11 @@
 -- `columns::put_offsets` meets its contract. Assumes nothing.
-use Prim.Native.Nat.{ℕ, ◌+◌, ◌-◌, ◌^◌, ◌≤◌}
-use mathlib.Core.Path.{refl, ◌≡◌, ap, ap₂}
-use mathlib.Core.List.{List, [], ◌∷◌}
-use mathlib.Core.Option.{none, some}
-use lib.ListN.{get_or}
-use Rattle.varint.specs.Varint.{put, wide}
-use Rattle.directory.specs.Encode.{code_of, put_all}
+use Prim.Native.Nat.{◌-◌, ◌^◌}
+use mathlib.Core.List.{[], ◌∷◌}
+use mathlib.Core.Option.{none}
+use Rattle.varint.specs.Varint.{wide}
+use Rattle.directory.specs.Encode.{put_all}
 use Rattle.writer.specs.Cells.{Below, end_at, offset_codes, part}
-use Rattle.writer.proofs.Parts.{codes-more, part_none}
-use Rattle.writer.proofs.Puts.{Kept, begin, last_empty, number, onward, room}
-use borrow.Author.Rules.{rules}
+use Rattle.writer.proofs.Puts.{Kept}
 use Rattle.writer.proofs.columns.put_offsets.Given as goal
 
 abbrev pub invariant-loop-i : goal.invariant-loop-i

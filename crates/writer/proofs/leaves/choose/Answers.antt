@@ -1,15 +1,14 @@
 -- `leaves::choose` meets its contract. The loop ends because a root that does not fit has more than one pointer. Assumes nothing.
-use Prim.Native.Nat.{ℕ, ◌-◌, ◌≤◌}
-use mathlib.Core.Path.{◌≡◌, ap, subst, sym, ◌∙◌}
+use Prim.Native.Nat.{ℕ}
+use mathlib.Core.Path.{ap, subst, sym, ◌∙◌}
 use native.Mathlib.Omega.{arith}
 use Rattle.directory.specs.Columns.{entries}
 use Rattle.writer.specs.Build.{leaf_size}
 use Rattle.writer.specs.Cells.{part}
-use Rattle.writer.specs.Cuts.{Measured, first_size_lem}
+use Rattle.writer.specs.Cuts.{Measured}
 use Rattle.writer.proofs.Growth.{first-bound}
 use Rattle.writer.proofs.Plans.{chosen, grows}
 use Rattle.writer.proofs.Stocks.{stock-few}
-use borrow.Author.Rules.{rules}
 use Rattle.writer.proofs.leaves.choose.Goals as goal
 
 pub measure-p-requires : goal.measure-p-requires

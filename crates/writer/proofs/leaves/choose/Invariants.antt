@@ -1,15 +1,10 @@
 -- `leaves::choose` meets its contract. The loop ends because a root that does not fit has more than one pointer. Assumes nothing.
-use Prim.Native.Nat.{ℕ, ◌-◌, ◌≤◌}
-use mathlib.Core.Path.{◌≡◌, ap, subst, sym, ◌∙◌}
-use native.Mathlib.Omega.{arith}
+use Prim.Native.Nat.{◌-◌, ◌≤◌}
+use mathlib.Core.Path.{◌≡◌}
 use Rattle.directory.specs.Columns.{entries}
 use Rattle.writer.specs.Build.{leaf_size}
 use Rattle.writer.specs.Cells.{part}
 use Rattle.writer.specs.Cuts.{Measured, first_size_lem}
-use Rattle.writer.proofs.Growth.{first-bound}
-use Rattle.writer.proofs.Plans.{chosen, grows}
-use Rattle.writer.proofs.Stocks.{stock-few}
-use borrow.Author.Rules.{rules}
 use Rattle.writer.proofs.leaves.choose.Given as goal
 
 abbrev pub invariant-loop-p : goal.invariant-loop-p

@@ -1,6 +1,5 @@
 -- `leaves::first_size` meets its contract. Assumes nothing.
 use Rattle.writer.proofs.Growth.{first-high, first-low}
-use borrow.Author.Rules.{rules}
 use Rattle.writer.proofs.leaves.first_size.Goals as goal
 
 pub returns-then-k-lt4096 : goal.returns-then-k-lt4096

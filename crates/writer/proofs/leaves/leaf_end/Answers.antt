@@ -1,6 +1,5 @@
 -- `leaves::leaf_end` meets its contract. Assumes nothing.
 use Rattle.writer.proofs.Cut.{end-last, end_low}
-use borrow.Author.Rules.{rules}
 use Rattle.writer.proofs.leaves.leaf_end.Goals as goal
 
 pub returns-then-k-count : goal.returns-then-k-count

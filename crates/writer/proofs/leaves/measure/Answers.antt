@@ -1,6 +1,6 @@
 -- `leaves::measure` meets its contract. The loop keeps that what is counted and what the leaves to come take are the whole. Assumes nothing.
-use Prim.Native.Nat.{ℕ, ◌+◌, ◌*◌, ◌-◌, ◌≤◌, ◌<◌}
-use mathlib.Core.Path.{◌≡◌, refl, ap, sym, ◌∙◌}
+use Prim.Native.Nat.{ℕ, ◌*◌, ◌-◌, ◌≤◌, ◌<◌}
+use mathlib.Core.Path.{◌≡◌, refl, ap, ◌∙◌}
 use native.Mathlib.Omega.{arith}
 use lib.ListN.{get_or, length, length-append}
 use Rattle.varint.specs.Varint.{narrow, put, wide}
@@ -8,14 +8,13 @@ use Rattle.varint.proofs.Shortest.{put-size}
 use Rattle.directory.specs.Columns.{entries}
 use Rattle.directory.specs.Encode.{encode}
 use Rattle.writer.specs.Build.{leaves_of}
-use Rattle.writer.specs.Cells.{Rising, part}
-use Rattle.writer.specs.Cuts.{cuts, first_ids, leaf_end_lem}
+use Rattle.writer.specs.Cells.{part}
+use Rattle.writer.specs.Cuts.{cuts, leaf_end_lem}
 use Rattle.writer.proofs.Cut.{cuts-more, cuts-none, cuts-rise, end-in, first-is, leaf-size}
 use Rattle.writer.proofs.Lengths.{narrow-is}
 use Rattle.writer.proofs.Parts.{entries-length}
 use Rattle.writer.proofs.Pointers.{root-length, root-more, root_none, root_size}
 use Rattle.writer.proofs.Stocks.{stock-few, stock-ready}
-use borrow.Author.Rules.{rules}
 use Rattle.writer.proofs.leaves.measure.Goals as goal
 use Rattle.writer.proofs.leaves.measure.Goals.{After-size-in-loop-from}
 

@@ -5,8 +5,7 @@ use native.Mathlib.Omega.{arith}
 use lib.ListN.{length-set}
 use Rattle.writer.specs.Cuts.{leaf_codes}
 use Rattle.writer.proofs.Pointers.{codes-none, codes-some}
-use Rattle.writer.proofs.Puts.{Kept, begin, byte, done, last_empty, onward}
-use borrow.Author.Rules.{rules}
+use Rattle.writer.proofs.Puts.{begin, byte, done, last_empty, onward}
 use Rattle.writer.proofs.leaves.put_codes.Goals as goal
 
 pub returns-then-n-eq0 : goal.returns-then-n-eq0

@@ -1,16 +1,11 @@
 -- `leaves::put_first_ids` meets its contract. Assumes nothing.
 use Prim.Native.Nat.{◌-◌}
-use mathlib.Core.Path.{refl, ap}
 use mathlib.Core.List.{[], ◌∷◌}
-use native.Mathlib.Omega.{arith}
 use Rattle.varint.specs.Varint.{wide}
 use Rattle.directory.specs.Encode.{put_all}
 use Rattle.writer.specs.Cells.{Rising, deltas, part}
 use Rattle.writer.specs.Cuts.{every}
-use Rattle.writer.proofs.Cut.{end-in, every_more}
-use Rattle.writer.proofs.Parts.{part_none}
-use Rattle.writer.proofs.Puts.{Kept, begin, last_empty, number, onward, room}
-use borrow.Author.Rules.{rules}
+use Rattle.writer.proofs.Puts.{Kept}
 use Rattle.writer.proofs.leaves.put_first_ids.Given as goal
 
 abbrev pub invariant-loop-from : goal.invariant-loop-from

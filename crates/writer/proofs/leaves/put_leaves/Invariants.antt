@@ -1,21 +1,12 @@
 -- `leaves::put_leaves` meets its contract: a leaf is put into the rest of its buffer, and its length into the root. Assumes nothing.
-use Prim.Native.Nat.{ℕ, ◌+◌, ◌-◌, ◌≤◌}
-use mathlib.Core.Path.{◌≡◌, refl, ap, ◌∙◌}
-use mathlib.Core.List.{List, [], ◌∷◌}
-use native.Mathlib.Omega.{arith}
-use lib.ListN.{length}
-use Rattle.varint.specs.Varint.{narrow, put, wide}
+use Prim.Native.Nat.{◌-◌}
+use mathlib.Core.List.{[], ◌∷◌}
+use Rattle.varint.specs.Varint.{narrow}
 use Rattle.directory.specs.Columns.{entries}
-use Rattle.directory.specs.Encode.{encode, put_all}
+use Rattle.directory.specs.Encode.{put_all}
 use Rattle.writer.specs.Build.{leaves_of}
-use Rattle.writer.specs.Cells.{part}
-use Rattle.writer.specs.Cuts.{cuts, leaf_end_lem, leaf_lengths}
-use Rattle.writer.proofs.Cut.{cuts-more, cuts-none, end-in, leaf-size, next-leaf}
-use Rattle.writer.proofs.Lengths.{narrow-is}
-use Rattle.writer.proofs.Puts.{Kept, begin, last_empty, number, onward, room, within}
-use Rattle.writer.proofs.Rest.{rest-room, rest-wrote}
-use Rattle.writer.proofs.Stocks.{stock-ready}
-use borrow.Author.Rules.{rules}
+use Rattle.writer.specs.Cuts.{cuts, leaf_lengths}
+use Rattle.writer.proofs.Puts.{Kept}
 use Rattle.writer.proofs.leaves.put_leaves.Given as goal
 
 abbrev pub invariant-loop-from : goal.invariant-loop-from

@@ -1,11 +1,10 @@
 -- `leaves::put_split` meets its contract: column by column, what is put of the root and what is still to come are the whole. Assumes nothing.
-use Prim.Native.Nat.{ℕ, ◌+◌, ◌≤◌, ◌<◌}
-use mathlib.Core.Path.{◌≡◌, ap, sym, ◌∙◌}
+use Prim.Native.Nat.{ℕ, ◌≤◌, ◌<◌}
+use mathlib.Core.Path.{◌≡◌, sym}
 use mathlib.Core.List.{List}
 use native.Mathlib.Omega.{arith}
-use lib.ListN.{drop, length, length-replicate}
+use lib.ListN.{length, length-replicate}
 use Rattle.directory.specs.Columns.{entries}
-use Rattle.directory.specs.Entries.{Entry}
 use Rattle.directory.specs.Encode.{encode}
 use Rattle.writer.specs.Build.{pointers}
 use Rattle.writer.specs.Cells.{part}
@@ -13,8 +12,7 @@ use Rattle.writer.specs.Cuts.{cuts, every, leaf_lengths}
 use Rattle.writer.proofs.Cut.{cuts-rise, firsts-are}
 use Rattle.writer.proofs.Parts.{entries-length}
 use Rattle.writer.proofs.Pointers.{codes-length, encode-pointers, root_columns}
-use Rattle.writer.proofs.Puts.{Kept, begin, bytes_of, done, onward, room}
-use borrow.Author.Rules.{rules}
+use Rattle.writer.proofs.Puts.{Kept, begin, done, onward, room}
 use Rattle.writer.proofs.leaves.put_split.Goals as goal
 
 -- nothing is put yet

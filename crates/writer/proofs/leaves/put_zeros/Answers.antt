@@ -1,11 +1,10 @@
 -- `leaves::put_zeros` meets its contract. Assumes nothing.
-use Prim.Native.Nat.{ℕ, suc, ◌+◌, ◌-◌, ◌≤◌}
+use Prim.Native.Nat.{ℕ, suc, ◌+◌, ◌-◌}
 use mathlib.Core.Path.{◌≡◌, refl, ap}
-use mathlib.Core.List.{List, [], ◌∷◌}
+use mathlib.Core.List.{List}
 use native.Mathlib.Omega.{arith}
 use lib.ListN.{replicate}
-use Rattle.writer.proofs.Puts.{Kept, begin, byte, last_empty, onward}
-use borrow.Author.Rules.{rules}
+use Rattle.writer.proofs.Puts.{begin, byte, last_empty, onward}
 use Rattle.writer.proofs.leaves.put_zeros.Goals as goal
 
 zeros : {m n : ℕ} → m ≡ n → ◌≡◌ {A = List ℕ} (replicate m 0) (replicate n 0)

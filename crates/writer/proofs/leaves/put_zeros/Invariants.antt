@@ -1,11 +1,9 @@
 -- `leaves::put_zeros` meets its contract. Assumes nothing.
-use Prim.Native.Nat.{ℕ, suc, ◌+◌, ◌-◌, ◌≤◌}
-use mathlib.Core.Path.{◌≡◌, refl, ap}
-use mathlib.Core.List.{List, [], ◌∷◌}
-use native.Mathlib.Omega.{arith}
+use Prim.Native.Nat.{◌+◌, ◌-◌, ◌≤◌}
+use mathlib.Core.Path.{◌≡◌}
+use mathlib.Core.List.{[], ◌∷◌}
 use lib.ListN.{replicate}
-use Rattle.writer.proofs.Puts.{Kept, begin, byte, last_empty, onward}
-use borrow.Author.Rules.{rules}
+use Rattle.writer.proofs.Puts.{Kept}
 use Rattle.writer.proofs.leaves.put_zeros.Given as goal
 
 abbrev pub invariant-loop-at : goal.invariant-loop-at

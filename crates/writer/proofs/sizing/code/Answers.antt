@@ -2,7 +2,6 @@
 use mathlib.Core.Path.{sym}
 use native.Mathlib.Omega.{arith}
 use Rattle.writer.proofs.Codes.{code-far, code-first, code-next}
-use borrow.Author.Rules.{rules}
 use Rattle.writer.proofs.sizing.code.Goals as goal
 
 pub overflow_add-result : goal.overflow_add-result

@@ -6,7 +6,6 @@ use Rattle.varint.proofs.Shortest.{put-size}
 use Rattle.directory.specs.Entries.{entry}
 use Rattle.writer.specs.Cells.{end_at}
 use Rattle.writer.proofs.Lengths.{size-one}
-use borrow.Author.Rules.{rules}
 use Rattle.writer.proofs.sizing.entry_size.Goals as goal
 
 pub overflow_add-result : goal.overflow_add-result

@@ -1,17 +1,14 @@
 -- `sizing::sized` meets its contract. The loop keeps that the sum and the size of the rest are the whole size. Assumes nothing.
-use Prim.Native.Nat.{ℕ, ◌+◌, ◌*◌, ◌-◌, ◌≤◌}
-use mathlib.Core.Path.{◌≡◌, ap, ◌∙◌}
+use Prim.Native.Nat.{ℕ, ◌-◌}
+use mathlib.Core.Path.{ap, ◌∙◌}
 use native.Mathlib.Omega.{arith}
-use lib.ListN.{get_or, length}
+use lib.ListN.{length}
 use Rattle.varint.specs.Varint.{put, wide}
 use Rattle.varint.proofs.Shortest.{put-size}
-use Rattle.directory.specs.Entries.{entry}
 use Rattle.directory.specs.Columns.{entries}
-use Rattle.directory.specs.Encode.{Fitting, encode}
 use Rattle.writer.specs.Cells.{end_at, part, size_from}
 use Rattle.writer.proofs.Lengths.{encode-length, size-more, size_none, size_small}
 use Rattle.writer.proofs.Parts.{cell-more, cell_at, entries-length, part_length, part_none}
-use borrow.Author.Rules.{rules}
 use Rattle.writer.proofs.sizing.sized.Goals as goal
 
 pub overflow_sub-to : goal.overflow_sub-to

@@ -6,7 +6,6 @@ use Rattle.directory.specs.Encode.{code_of}
 use Rattle.directory.proofs.Checks.{then-failed, then-passed, then-refused}
 use Rattle.writer.specs.Cells.{end_at}
 use Rattle.writer.proofs.Coded.{coded-is}
-use borrow.Author.Rules.{rules}
 use Rattle.writer.proofs.writing.check_coded.Goals as goal
 
 pub returns-in_default : goal.returns-in_default

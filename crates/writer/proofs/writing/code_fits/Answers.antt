@@ -1,7 +1,6 @@
 -- `writing::code_fits` meets its contract. Assumes nothing.
 use native.Mathlib.Omega.{arith}
 use Rattle.writer.proofs.Codes.{fits-first, fits_last, fits_low}
-use borrow.Author.Rules.{rules}
 use Rattle.writer.proofs.writing.code_fits.Goals as goal
 
 pub returns-then-to-lt18446744073709551615 : goal.returns-then-to-lt18446744073709551615

@@ -1,21 +1,13 @@
 -- `writing::encoded` meets its contract. The loop keeps that the checks of the rest are those of the whole, and so with the sizes. Assumes nothing.
-use Prim.Native.Nat.{ℕ, ◌+◌, ◌*◌, ◌-◌, ◌≤◌}
-use mathlib.Core.Path.{◌≡◌, refl, ap, sym, ◌∙◌}
+use Prim.Native.Nat.{◌+◌, ◌*◌, ◌-◌, ◌≤◌}
+use mathlib.Core.Path.{◌≡◌}
 use mathlib.Core.Option.{none}
-use native.Mathlib.Omega.{arith}
 use lib.ListN.{length}
 use Rattle.refusal.specs.Out.{ok}
-use Rattle.varint.specs.Varint.{put, wide}
-use Rattle.varint.proofs.Shortest.{put-size}
 use Rattle.directory.specs.Columns.{entries}
 use Rattle.directory.specs.Encode.{encode}
 use Rattle.writer.specs.Write.{check_all}
-use Rattle.directory.specs.Answers.{said_checked}
 use Rattle.writer.specs.Cells.{end_at, part, size_from}
-use Rattle.writer.proofs.Coded.{all-bad, all_done, all-on, coded-sound}
-use Rattle.writer.proofs.Lengths.{encode-length, size-more, size_none, size_small}
-use Rattle.writer.proofs.Parts.{cell-more, cell_at, entries-length, part_length, part_none}
-use borrow.Author.Rules.{rules}
 use Rattle.writer.proofs.writing.encoded.Given as goal
 
 abbrev pub invariant-loop-i : goal.invariant-loop-i

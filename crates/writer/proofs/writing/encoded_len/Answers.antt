@@ -2,7 +2,6 @@
 use mathlib.Core.Path.{ap, sym, ◌∙◌}
 use Rattle.directory.specs.Answers.{said_checked}
 use Rattle.writer.proofs.Written.{counted, length-bad, length-is}
-use borrow.Author.Rules.{rules}
 use Rattle.writer.proofs.writing.encoded_len.Goals as goal
 
 pub returns-in-Refused : goal.returns-in-Refused

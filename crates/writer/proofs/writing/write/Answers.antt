@@ -1,6 +1,5 @@
 -- `writing::write` meets its contract. Assumes nothing.
 use Rattle.writer.proofs.Written.{write-bad, write-ok, write-ready, write-short}
-use borrow.Author.Rules.{rules}
 use Rattle.writer.proofs.writing.write.Goals as goal
 
 pub returns-in_default : goal.returns-in_default

@@ -1,5 +1,4 @@
 -- `cursors::Columns::next` meets its contract: the answers so far, in the order of the row, decide what the definition says.
-use borrow.Author.Rules.{rules}
 use borrow.Author.Tests.{eq-eqb, ne_eqb}
 use Rattle.directory.specs.Decode.{ended}
 use Rattle.walk.specs.Walk.{next_in, row_at}

@@ -1,5 +1,4 @@
 -- `cursors::Columns::open` meets its contract: the answers so far, column by column, decide what the definition says. Assumes nothing.
-use borrow.Author.Rules.{rules}
 use borrow.Author.Tests.{le-leb, lt-leb}
 use Rattle.directory.specs.Entries.{max_count}
 use Rattle.walk.specs.Walk.{open_in}
