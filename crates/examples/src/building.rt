@@ -1,5 +1,6 @@
 // Root and leaves built from the tiles 0, 1, 2 and so on, of 5 bytes each, end to end.
 use crate::print::{hex, number, refused, word};
+use std::io;
 use writer::{Built, Sized};
 
 const ROWS: u64 = 4064;
@@ -19,30 +20,31 @@ fn lay_rows(ids: &mut [u64], offsets: &mut [u64]) {
     }
 }
 
-fn told_sizes(a: Sized) {
+fn told_sizes(rt: &impl Print, a: Sized) -> io::Result<()> {
     match a {
         Sized::Sizes(s) => {
-            number(s.root as u64);
-            number(s.leaves as u64);
+            number(rt, s.root as u64)?;
+            number(rt, s.leaves as u64)
         }
-        Sized::Refused(r) => refused(r),
+        Sized::Refused(r) => refused(rt, r),
     }
 }
 
-fn told_built(a: Built) {
+fn told_built(rt: &impl Print, a: Built) -> io::Result<()> {
     match a {
         Built::Done(s, c) => {
-            number(s.root as u64);
-            number(s.leaves as u64);
-            number(c.n_tile_entries);
-            number(c.n_addressed_tiles);
+            number(rt, s.root as u64)?;
+            number(rt, s.leaves as u64)?;
+            number(rt, c.n_tile_entries)?;
+            number(rt, c.n_addressed_tiles)
         }
-        Built::Refused(r) => refused(r),
+        Built::Refused(r) => refused(rt, r),
     }
 }
 
 // Into the first bytes of the buffers.
 fn first(
+    rt: &impl Print,
     a: usize,
     b: usize,
     ids: &[u64],
@@ -51,10 +53,10 @@ fn first(
     offsets: &[u64],
     root: &mut [u8],
     leaves: &mut [u8],
-) {
+) -> io::Result<()> {
     if a <= root.len() {
         if b <= leaves.len() {
-            told_built(writer::build(
+            let built = writer::build(
                 4064,
                 ids,
                 runs,
@@ -63,36 +65,69 @@ fn first(
                 20320,
                 &mut root[0..a],
                 &mut leaves[0..b],
-            ));
+            );
+            return told_built(rt, built);
         }
     }
+    Ok(())
 }
 
-fn build(a: usize, b: usize, ids: &[u64], runs: &[u32], lengths: &[u32], offsets: &[u64]) {
+fn build(
+    rt: &impl Print,
+    a: usize,
+    b: usize,
+    ids: &[u64],
+    runs: &[u32],
+    lengths: &[u32],
+    offsets: &[u64],
+) -> io::Result<()> {
     let mut root = [9u8; 8];
     let mut leaves = [9u8; 16384];
-    first(a, b, ids, runs, lengths, offsets, &mut root, &mut leaves);
-    hex(&root);
-    hex(&leaves[0..4]);
-    hex(&leaves[16256..16260]);
+    first(
+        rt,
+        a,
+        b,
+        ids,
+        runs,
+        lengths,
+        offsets,
+        &mut root,
+        &mut leaves,
+    )?;
+    hex(rt, &root)?;
+    hex(rt, &leaves[0..4])?;
+    hex(rt, &leaves[16256..16260])
 }
 
 // `S COUNT DATA`: how long root and leaves of so many rows are, over so much data. `B ROOT LEAVES`: all rows built into so many
 // bytes that hold 9s: how long root and leaves are, how many entries and tiles; the root's eight bytes; four of the leaves'
 // at 0, four at 16256.
-fn of_rows(kind: u8, a: u64, b: u64, ids: &[u64], runs: &[u32], lengths: &[u32], offsets: &[u64]) {
+fn of_rows(
+    rt: &impl Print,
+    kind: u8,
+    a: u64,
+    b: u64,
+    ids: &[u64],
+    runs: &[u32],
+    lengths: &[u32],
+    offsets: &[u64],
+) -> io::Result<()> {
     if kind == b'S' {
-        told_sizes(writer::build_sizes(a as usize, ids, runs, lengths, offsets, b));
+        told_sizes(
+            rt,
+            writer::build_sizes(a as usize, ids, runs, lengths, offsets, b),
+        )
     } else {
-        build(a as usize, b as usize, ids, runs, lengths, offsets);
+        build(rt, a as usize, b as usize, ids, runs, lengths, offsets)
     }
 }
 
-pub(crate) fn rows(kind: u8, p: &[u8]) {
+pub(crate) fn rows(rt: &impl Print, kind: u8, p: &[u8]) -> io::Result<()> {
     let mut ids = [0u64; 4064];
     let mut offsets = [0u64; 4064];
     lay_rows(&mut ids, &mut offsets);
     of_rows(
+        rt,
         kind,
         word(p, 0),
         word(p, 10),
@@ -100,5 +135,5 @@ pub(crate) fn rows(kind: u8, p: &[u8]) {
         &[1; 4064],
         &[5; 4064],
         &offsets,
-    );
+    )
 }

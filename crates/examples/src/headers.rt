@@ -2,103 +2,105 @@
 use crate::print::{hex, number, refused, signed, small, text, word};
 use degrees::stored_of;
 use header::{Degrees, Header, HeaderRead, HeaderWritten};
+use std::io;
 
 // Degrees, as the whole number that is stored for them.
-fn degree(d: f64) {
-    signed(stored_of(d));
+fn degree(rt: &impl Print, d: f64) -> io::Result<()> {
+    signed(rt, stored_of(d))
 }
 
-fn degrees(d: Degrees) {
-    degree(d.min_longitude);
-    degree(d.min_latitude);
-    degree(d.max_longitude);
-    degree(d.max_latitude);
-    degree(d.center_longitude);
-    degree(d.center_latitude);
+fn degrees(rt: &impl Print, d: Degrees) -> io::Result<()> {
+    degree(rt, d.min_longitude)?;
+    degree(rt, d.min_latitude)?;
+    degree(rt, d.max_longitude)?;
+    degree(rt, d.max_latitude)?;
+    degree(rt, d.center_longitude)?;
+    degree(rt, d.center_latitude)
 }
 
-fn code(a: u8) {
-    number(a as u64);
+fn code(rt: &impl Print, a: u8) -> io::Result<()> {
+    number(rt, a as u64)
 }
 
-fn sections(h: Header) {
-    code(h.version);
-    number(h.root_offset);
-    number(h.root_length);
-    number(h.metadata_offset);
-    number(h.metadata_length);
-    number(h.leaf_offset);
-    number(h.leaf_length);
-    number(h.data_offset);
-    number(h.data_length);
+fn sections(rt: &impl Print, h: Header) -> io::Result<()> {
+    code(rt, h.version)?;
+    number(rt, h.root_offset)?;
+    number(rt, h.root_length)?;
+    number(rt, h.metadata_offset)?;
+    number(rt, h.metadata_length)?;
+    number(rt, h.leaf_offset)?;
+    number(rt, h.leaf_length)?;
+    number(rt, h.data_offset)?;
+    number(rt, h.data_length)
 }
 
-fn codes(h: Header) {
-    number(h.n_addressed_tiles);
-    number(h.n_tile_entries);
-    code(h.clustered as u8);
-    code(h.internal_compression);
-    code(h.tile_compression);
-    code(h.tile_type);
-    code(h.min_zoom);
-    code(h.max_zoom);
+fn codes(rt: &impl Print, h: Header) -> io::Result<()> {
+    number(rt, h.n_addressed_tiles)?;
+    number(rt, h.n_tile_entries)?;
+    code(rt, h.clustered as u8)?;
+    code(rt, h.internal_compression)?;
+    code(rt, h.tile_compression)?;
+    code(rt, h.tile_type)?;
+    code(rt, h.min_zoom)?;
+    code(rt, h.max_zoom)
 }
 
-fn fields(h: Header) {
-    sections(h);
-    codes(h);
+fn fields(rt: &impl Print, h: Header) -> io::Result<()> {
+    sections(rt, h)?;
+    codes(rt, h)?;
     let d = h.degrees;
-    degrees(d);
-    code(h.center_zoom);
+    degrees(rt, d)?;
+    code(rt, h.center_zoom)
 }
 
 // `h`: the fields.
-pub(crate) fn read(s: &[u8]) {
+pub(crate) fn read(rt: &impl Print, s: &[u8]) -> io::Result<()> {
     match Header::try_from_bytes(s) {
-        HeaderRead::Header(h) => fields(h),
-        HeaderRead::Refused(r) => refused(r),
+        HeaderRead::Header(h) => fields(rt, h),
+        HeaderRead::Refused(r) => refused(rt, r),
     }
 }
 
-fn wrote(a: HeaderWritten, out: &[u8]) {
+fn wrote(rt: &impl Print, a: HeaderWritten, out: &[u8]) -> io::Result<()> {
     match a {
         HeaderWritten::Done => {
-            hex(out);
-            text(b"\nread back ->");
-            read(out);
+            hex(rt, out)?;
+            text(rt, b"\nread back ->")?;
+            read(rt, out)
         }
-        HeaderWritten::Refused(r) => refused(r),
+        HeaderWritten::Refused(r) => refused(rt, r),
     }
 }
 
-fn into(h: Header, out: &mut [u8]) {
+fn into(rt: &impl Print, h: Header, out: &mut [u8]) -> io::Result<()> {
     let a = h.write_to(out);
-    wrote(a, out);
+    wrote(rt, a, out)
 }
 
-fn first(h: Header, n: usize, out: &mut [u8]) {
+fn first(rt: &impl Print, h: Header, n: usize, out: &mut [u8]) -> io::Result<()> {
     if n <= out.len() {
-        into(h, &mut out[0..n]);
+        return into(rt, h, &mut out[0..n]);
     }
+    Ok(())
 }
 
 // `H COMPRESSION TYPE ROOM`: a new header, written into so many bytes of 0xEE, and read back.
-pub(crate) fn write(p: &[u8]) {
+pub(crate) fn write(rt: &impl Print, p: &[u8]) -> io::Result<()> {
     let mut out = [0xeeu8; 128];
     let h = Header::new(small(p, 0), small(p, 10));
-    first(h, word(p, 20) as usize, &mut out);
+    first(rt, h, word(p, 20) as usize, &mut out)
 }
 
 // `s`: what is stored for these.
-pub(crate) fn all_stored() {
-    degree(0.00000025);
-    degree(-0.00000025);
-    degree(-180.0);
-    degree(85.051129);
-    degree(214.7483647);
-    degree(300.0);
-    degree(-300.0);
-    degree(0.0 / 0.0);
-    degree(1.0 / 0.0);
-    degree(-1.0 / 0.0);
+pub(crate) fn all_stored(rt: &impl Print) -> io::Result<()> {
+    degree(rt, 0.00000025)?;
+    degree(rt, -0.00000025)?;
+    degree(rt, -180.0)?;
+    degree(rt, 85.051129)?;
+    degree(rt, 214.7483647)?;
+    degree(rt, 300.0)?;
+    degree(rt, -300.0)?;
+    degree(rt, 0.0 / 0.0)?;
+    degree(rt, 1.0 / 0.0)?;
+    degree(rt, -1.0 / 0.0)
 }

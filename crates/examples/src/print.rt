@@ -1,6 +1,6 @@
 // What the examples take their numbers with, and print with.
-use libc::STDOUT_FILENO;
 use refusal::Refusal;
+use std::io;
 use varint::{Cursor, ReadU32, ReadU64};
 
 // A number of the example's, a varint in ten bytes.
@@ -22,17 +22,17 @@ pub(crate) fn small(p: &[u8], at: usize) -> u8 {
     (word(p, at) % 256) as u8
 }
 
-pub(crate) fn text(s: &[u8]) {
-    io::write_all(STDOUT_FILENO, s);
+// Bytes as they are: the names of examples are bytes of the input.
+pub(crate) fn text(rt: &impl Print, s: &[u8]) -> io::Result<()> {
+    rt.write_all(s)
 }
 
-fn space() {
-    text(b" ");
+fn space(rt: &impl Print) -> io::Result<()> {
+    text(rt, b" ")
 }
 
-pub(crate) fn number(n: u64) {
-    space();
-    io::print_decimal(STDOUT_FILENO, n);
+pub(crate) fn number(rt: &impl Print, n: u64) -> io::Result<()> {
+    print!(rt; " {n}")
 }
 
 // How many steps a number is from 0, or a negative one from -1.
@@ -40,30 +40,29 @@ fn steps(n: i32) -> u32 {
     if n >= 0 { n as u32 } else { (-1 - n) as u32 }
 }
 
-pub(crate) fn signed(n: i32) {
+pub(crate) fn signed(rt: &impl Print, n: i32) -> io::Result<()> {
     if n < 0 {
-        text(b" -");
-        io::print_decimal(STDOUT_FILENO, steps(n) as u64 + 1);
+        let size = steps(n) as u64 + 1;
+        print!(rt; " -{size}")
     } else {
-        number(steps(n) as u64);
+        number(rt, steps(n) as u64)
     }
 }
 
 // A byte, two digits behind a space.
-fn byte(b: u8) {
-    space();
-    io::print_hex(STDOUT_FILENO, b as u64, 2);
+fn byte(rt: &impl Print, b: u8) -> io::Result<()> {
+    space(rt)?;
+    print!(rt; "{b:02x}")
 }
 
-pub(crate) fn hex(s: &[u8]) {
-    let mut i: usize = 0;
-    while i < s.len() {
-        byte(s[i]);
-        i += 1;
+pub(crate) fn hex(rt: &impl Print, s: &[u8]) -> io::Result<()> {
+    for b in s {
+        byte(rt, *b)?;
     }
+    Ok(())
 }
 
-pub(crate) fn refused(r: Refusal) {
-    text(b" refused");
-    number(r.number() as u64);
+pub(crate) fn refused(rt: &impl Print, r: Refusal) -> io::Result<()> {
+    text(rt, b" refused")?;
+    number(rt, r.number() as u64)
 }

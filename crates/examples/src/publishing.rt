@@ -5,6 +5,7 @@ use acceptance::Counts;
 use header::Header;
 use publisher::{Published, Settings, Totalled};
 use reader::LookupAnswer;
+use std::io;
 use tile::{CoordAnswer, IdAnswer, TileCoord, TileId};
 
 // Where the last store begins: it is header byte 0.
@@ -56,10 +57,10 @@ fn newer(dest: &mut [u8], position: u64, budget: u64) -> Published {
     stores(b"newer", dest, position, budget)
 }
 
-fn told(p: Published) {
+fn told(rt: &impl Print, p: Published) -> io::Result<()> {
     match p {
-        Published::Position(n) => number(n),
-        Published::Refused(r) => refused(r),
+        Published::Position(n) => number(rt, n),
+        Published::Refused(r) => refused(rt, r),
     }
 }
 
@@ -130,65 +131,67 @@ fn step(dest: &mut [u8]) -> u64 {
 }
 
 // Tiles 0 and 1, and the tile data.
-fn contents(dest: &[u8]) {
-    of_id(b'l', 0, dest, dest);
-    of_id(b'l', 1, dest, dest);
+fn contents(rt: &impl Print, dest: &[u8]) -> io::Result<()> {
+    of_id(rt, b'l', 0, dest, dest)?;
+    of_id(rt, b'l', 1, dest, dest)?;
     if dest.len() == 16391 {
-        hex(&dest[16386..16391]);
+        return hex(rt, &dest[16386..16391]);
     }
+    Ok(())
 }
 
-fn everything(dest: &mut [u8]) {
-    text(b"\ncuts 1 to 16522, every tile refused 2 ->");
-    number(step(dest));
-    text(b"\nthe last store ->");
-    told(newer(dest, LAST, 1));
-    contents(dest);
+fn everything(rt: &impl Print, dest: &mut [u8]) -> io::Result<()> {
+    text(rt, b"\ncuts 1 to 16522, every tile refused 2 ->")?;
+    number(rt, step(dest))?;
+    text(rt, b"\nthe last store ->")?;
+    told(rt, newer(dest, LAST, 1))?;
+    contents(rt, dest)
 }
 
-fn in_three(dest: &mut [u8]) {
-    text(b"\nthree calls, and the same bytes ->");
-    told(newer(dest, 0, 16390));
-    told(newer(dest, 16390, 7));
-    told(newer(dest, 16397, 18446744073709551615));
+fn in_three(rt: &impl Print, dest: &mut [u8]) -> io::Result<()> {
+    text(rt, b"\nthree calls, and the same bytes ->")?;
+    told(rt, newer(dest, 0, 16390))?;
+    told(rt, newer(dest, 16390, 7))?;
+    told(rt, newer(dest, 16397, 18446744073709551615))
 }
 
 // `P`: the older archive; the newer over it, one store a call; the newer over the older in three calls.
-pub(crate) fn cut() {
+pub(crate) fn cut(rt: &impl Print) -> io::Result<()> {
     let mut dest = [7u8; 16391];
-    told(older(&mut dest));
-    contents(&dest);
+    told(rt, older(&mut dest))?;
+    contents(rt, &dest)?;
     let mut other = dest;
-    everything(&mut dest);
-    in_three(&mut other);
-    number(same(&dest, &other) as u64);
+    everything(rt, &mut dest)?;
+    in_three(rt, &mut other)?;
+    number(rt, same(&dest, &other) as u64)
 }
 
 // `p COMPRESSION TYPE POSITION BUDGET ROOT`, the bytes being the root, so long, and the tile data: one call over the older
 // archive; whether the archive is the same bytes after it.
-pub(crate) fn once(p: &[u8], s: &[u8]) {
+pub(crate) fn once(rt: &impl Print, p: &[u8], s: &[u8]) -> io::Result<()> {
     let n = word(p, 40) as usize;
     if s.len() < n {
-        return;
+        return Ok(());
     }
     let mut dest = [7u8; 16391];
     older(&mut dest);
     let before = dest;
-    told(publish(
+    let answer = publish(
         settings(small(p, 0), small(p, 10)),
         &s[0..n],
         &s[n..],
         &mut dest,
         word(p, 20),
         word(p, 30),
-    ));
-    number(same(&dest, &before) as u64);
+    );
+    told(rt, answer)?;
+    number(rt, same(&dest, &before) as u64)
 }
 
 // `T ROOT METADATA TILES LEAVES`: how many stores.
-pub(crate) fn total(p: &[u8]) {
+pub(crate) fn total(rt: &impl Print, p: &[u8]) -> io::Result<()> {
     match publisher::total(word(p, 0), word(p, 10), word(p, 20), word(p, 30)) {
-        Totalled::Stores(n) => number(n),
-        Totalled::Refused(r) => refused(r),
+        Totalled::Stores(n) => number(rt, n),
+        Totalled::Refused(r) => refused(rt, r),
     }
 }

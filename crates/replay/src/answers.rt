@@ -3,86 +3,87 @@ use crate::print::{hex, number, refused, text};
 use directory::{DirEntry, DirectoryRead, Found};
 use header::{Header, HeaderRead, HeaderWritten};
 use reader::LookupAnswer;
+use std::io;
 use tile::{CoordAnswer, IdAnswer, TileCoord, TileId};
 use varint::{Cursor, ReadU32, ReadU64};
 use writer::Length;
 
-pub(crate) fn answer(kind: u8, s: &[u8]) {
+pub(crate) fn answer(rt: &impl Print, kind: u8, s: &[u8]) -> io::Result<()> {
     match kind {
-        b'i' => id(s),
-        b'c' => coord(s),
-        b'h' => header(s),
-        b'd' => directory(s),
-        b'f' => find(s),
-        b'l' => lookup(s),
-        _ => text(b"no such kind"),
-    }
-    text(b"\n");
+        b'i' => id(rt, s),
+        b'c' => coord(rt, s),
+        b'h' => header(rt, s),
+        b'd' => directory(rt, s),
+        b'f' => find(rt, s),
+        b'l' => lookup(rt, s),
+        _ => text(rt, b"no such kind"),
+    }?;
+    text(rt, b"\n")
 }
 
-fn told_id(a: IdAnswer) {
+fn told_id(rt: &impl Print, a: IdAnswer) -> io::Result<()> {
     match a {
-        IdAnswer::Id(i) => number(i.value()),
-        IdAnswer::Refused(r) => refused(r),
+        IdAnswer::Id(i) => number(rt, i.value()),
+        IdAnswer::Refused(r) => refused(rt, r),
     }
 }
 
-fn told_coord(a: CoordAnswer) {
+fn told_coord(rt: &impl Print, a: CoordAnswer) -> io::Result<()> {
     match a {
         CoordAnswer::Coord(c) => {
-            number(c.z() as u64);
-            number(c.x() as u64);
-            number(c.y() as u64);
+            number(rt, c.z() as u64)?;
+            number(rt, c.x() as u64)?;
+            number(rt, c.y() as u64)
         }
-        CoordAnswer::Refused(r) => refused(r),
+        CoordAnswer::Refused(r) => refused(rt, r),
     }
 }
 
 // The zoom is a byte, x and y are varints behind it.
-fn id(s: &[u8]) {
+fn id(rt: &impl Print, s: &[u8]) -> io::Result<()> {
     if s.len() == 0 {
-        return;
+        return Ok(());
     }
     let ReadU32::Number(x, c) = (Cursor { at: 1 }).read_u32(s) else {
-        return;
+        return Ok(());
     };
     let ReadU32::Number(y, _end) = c.read_u32(s) else {
-        return;
+        return Ok(());
     };
     match TileCoord::new(s[0], x, y) {
-        CoordAnswer::Coord(c) => told_id(c.to_id()),
-        CoordAnswer::Refused(r) => refused(r),
+        CoordAnswer::Coord(c) => told_id(rt, c.to_id()),
+        CoordAnswer::Refused(r) => refused(rt, r),
     }
 }
 
-fn coord(s: &[u8]) {
+fn coord(rt: &impl Print, s: &[u8]) -> io::Result<()> {
     let ReadU64::Number(n, _end) = (Cursor { at: 0 }).read_u64(s) else {
-        return;
+        return Ok(());
     };
     match TileId::new(n) {
-        IdAnswer::Id(i) => told_coord(i.to_coord()),
-        IdAnswer::Refused(r) => refused(r),
+        IdAnswer::Id(i) => told_coord(rt, i.to_coord()),
+        IdAnswer::Refused(r) => refused(rt, r),
     }
 }
 
 // A header that is read is written again.
-fn header(s: &[u8]) {
+fn header(rt: &impl Print, s: &[u8]) -> io::Result<()> {
     let mut out = [0u8; 127];
     match Header::try_from_bytes(s) {
         HeaderRead::Header(h) => match h.write_to(&mut out) {
-            HeaderWritten::Done => hex(&out, 127),
-            HeaderWritten::Refused(r) => refused(r),
+            HeaderWritten::Done => hex(rt, &out, 127),
+            HeaderWritten::Refused(r) => refused(rt, r),
         },
-        HeaderRead::Refused(r) => refused(r),
+        HeaderRead::Refused(r) => refused(rt, r),
     }
 }
 
-fn entry(id: u64, run: u32, length: u32, offset: u64) {
-    number(id);
-    number(run as u64);
-    number(length as u64);
-    number(offset);
-    text(b",");
+fn entry(rt: &impl Print, id: u64, run: u32, length: u32, offset: u64) -> io::Result<()> {
+    number(rt, id)?;
+    number(rt, run as u64)?;
+    number(rt, length as u64)?;
+    number(rt, offset)?;
+    text(rt, b",")
 }
 
 fn slot64(s: &[u64], i: usize) -> u64 {
@@ -93,30 +94,39 @@ fn slot32(s: &[u32], i: usize) -> u32 {
     if i < s.len() { s[i] } else { 0 }
 }
 
-fn entries(n: usize, ids: &[u64], runs: &[u32], lengths: &[u32], offsets: &[u64]) {
+fn entries(
+    rt: &impl Print,
+    n: usize,
+    ids: &[u64],
+    runs: &[u32],
+    lengths: &[u32],
+    offsets: &[u64],
+) -> io::Result<()> {
     let mut i: usize = 0;
     while i < n {
         entry(
+            rt,
             slot64(ids, i),
             slot32(runs, i),
             slot32(lengths, i),
             slot64(offsets, i),
-        );
+        )?;
         i += 1;
     }
+    Ok(())
 }
 
 // As much of a buffer as was written.
-fn written(out: &[u8], a: Length) {
-    text(b" ");
+fn written(rt: &impl Print, out: &[u8], a: Length) -> io::Result<()> {
+    text(rt, b" ")?;
     match a {
-        Length::Bytes(n) => hex(out, n),
-        Length::Refused(r) => refused(r),
+        Length::Bytes(n) => hex(rt, out, n),
+        Length::Refused(r) => refused(rt, r),
     }
 }
 
 // A directory that is read is written again.
-fn directory(s: &[u8]) {
+fn directory(rt: &impl Print, s: &[u8]) -> io::Result<()> {
     let mut ids = [0u64; 64];
     let mut runs = [0u32; 64];
     let mut lengths = [0u32; 64];
@@ -124,62 +134,62 @@ fn directory(s: &[u8]) {
     let mut out = [0u8; 2048];
     match directory::read(s, &mut ids, &mut runs, &mut lengths, &mut offsets) {
         DirectoryRead::Entries(n, _used) => {
-            entries(n, &ids, &runs, &lengths, &offsets);
+            entries(rt, n, &ids, &runs, &lengths, &offsets)?;
             let a = writer::write(n, &ids, &runs, &lengths, &offsets, &mut out);
-            written(&out, a);
+            written(rt, &out, a)
         }
-        DirectoryRead::Refused(r) => refused(r),
+        DirectoryRead::Refused(r) => refused(rt, r),
     }
 }
 
-fn found(e: DirEntry) {
-    entry(e.tile_id.value(), e.run_length, e.length, e.offset.0);
+fn found(rt: &impl Print, e: DirEntry) -> io::Result<()> {
+    entry(rt, e.tile_id.value(), e.run_length, e.length, e.offset.0)
 }
 
-fn told_found(a: Found) {
+fn told_found(rt: &impl Print, a: Found) -> io::Result<()> {
     match a {
-        Found::Tile(e) => found(e),
-        Found::Leaf(e) => found(e),
-        Found::Absent => text(b"absent"),
-        Found::Refused(r) => refused(r),
+        Found::Tile(e) => found(rt, e),
+        Found::Leaf(e) => found(rt, e),
+        Found::Absent => text(rt, b"absent"),
+        Found::Refused(r) => refused(rt, r),
     }
 }
 
 // An id in ten bytes, as a varint and zeros, and a directory behind them.
-fn find(s: &[u8]) {
+fn find(rt: &impl Print, s: &[u8]) -> io::Result<()> {
     if s.len() < 10 {
-        return;
+        return Ok(());
     }
     let ReadU64::Number(n, _end) = (Cursor { at: 0 }).read_u64(s) else {
-        return;
+        return Ok(());
     };
     match TileId::new(n) {
-        IdAnswer::Id(i) => told_found(walk::find(&s[10..], i)),
-        IdAnswer::Refused(r) => refused(r),
+        IdAnswer::Id(i) => told_found(rt, walk::find(&s[10..], i)),
+        IdAnswer::Refused(r) => refused(rt, r),
     }
 }
 
-fn told_lookup(a: LookupAnswer) {
+fn told_lookup(rt: &impl Print, a: LookupAnswer) -> io::Result<()> {
     match a {
         LookupAnswer::Found(l) => {
-            number(l.start.0);
-            number(l.length as u64);
+            number(rt, l.start.0)?;
+            number(rt, l.length as u64)
         }
-        LookupAnswer::Absent => text(b"absent"),
-        LookupAnswer::Refused(r) => refused(r),
+        LookupAnswer::Absent => text(rt, b"absent"),
+        LookupAnswer::Refused(r) => refused(rt, r),
     }
 }
 
 // The same with an archive.
-fn lookup(s: &[u8]) {
+fn lookup(rt: &impl Print, s: &[u8]) -> io::Result<()> {
     if s.len() < 10 {
-        return;
+        return Ok(());
     }
     let ReadU64::Number(n, _end) = (Cursor { at: 0 }).read_u64(s) else {
-        return;
+        return Ok(());
     };
     match TileId::new(n) {
-        IdAnswer::Id(i) => told_lookup(reader::lookup(&s[10..], i)),
-        IdAnswer::Refused(r) => refused(r),
+        IdAnswer::Id(i) => told_lookup(rt, reader::lookup(&s[10..], i)),
+        IdAnswer::Refused(r) => refused(rt, r),
     }
 }

@@ -2,9 +2,9 @@
 // says how both were made.
 #![tactic(auto)]
 
-ghost use Rattle.std.specs.Prelude.{◌≤◌, ◌<◌, length};
+ghost use Rattle.std.specs.Prelude.{◌≤◌, ◌<◌, length, IfOk};
 
-use libc::STDIN_FILENO;
+use std::io::{self, Read};
 
 mod answers;
 mod print;
@@ -16,33 +16,50 @@ fn size(low: u8, high: u8) -> usize
 }
 
 // The input at a place: its kind, its length in two bytes, lowest first, and so many bytes. Answers the place behind it.
-fn replay_one(list: &[u8], at: usize) -> usize
+fn replay_one(rt: &impl Print, list: &[u8], at: usize) -> io::Result<usize>
     requires { at < length list.now }
-    ensures { (at < result) × (result ≤ length list.now) }
+    ensures { IfOk result (λ next. (at < next) × (next ≤ length list.now)) }
 {
     let rest = list.len() - at;
     if rest < 3 {
-        return list.len();
+        return Ok(list.len());
     }
     let n = size(list[at + 1], list[at + 2]);
     if rest - 3 < n {
-        return list.len();
+        return Ok(list.len());
     }
     let from = at + 3;
     let to = from + n;
-    answers::answer(list[at], &list[from..to]);
-    to
+    answers::answer(rt, list[at], &list[from..to])?;
+    Ok(to)
 }
 
-fn replay(list: &[u8]) {
+fn replay(rt: &impl Print, list: &[u8]) -> io::Result<()> {
     let mut at: usize = 0;
     while at < list.len() {
-        at = replay_one(list, at);
+        at = replay_one(rt, list, at)?;
     }
+    Ok(())
 }
 
-fn main() {
+// Reads until the buffer is full or the input ends, and answers how many bytes of it are read.
+fn read_full(rt: &impl Input, buffer: &mut [u8]) -> io::Result<usize>
+    ensures { IfOk result (λ n. n ≤ length buffer.new) }
+{
+    let mut input = rt.reader();
+    let mut done: usize = 0;
+    while done < buffer.len() {
+        let n = input.read(&mut buffer[done..])?;
+        if n == 0 {
+            break;
+        }
+        done += n;
+    }
+    Ok(done)
+}
+
+fn main(rt: HostRuntime) -> io::Result<()> {
     let mut list = [0u8; 262144];
-    let n = io::read_full(STDIN_FILENO, &mut list);
-    replay(&list[..n]);
+    let n = read_full(&rt, &mut list)?;
+    replay(&rt, &list[..n])
 }

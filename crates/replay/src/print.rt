@@ -1,36 +1,35 @@
 // What the answers are printed with.
-use libc::STDOUT_FILENO;
 use refusal::Refusal;
+use std::io;
 
-pub(crate) fn text(s: &[u8]) {
-    io::write_all(STDOUT_FILENO, s);
+pub(crate) fn text(rt: &impl Print, s: &[u8]) -> io::Result<()> {
+    rt.write_all(s)
 }
 
-pub(crate) fn number(n: u64) {
-    text(b" ");
-    io::print_decimal(STDOUT_FILENO, n);
+pub(crate) fn number(rt: &impl Print, n: u64) -> io::Result<()> {
+    print!(rt; " {n}")
 }
 
-fn digits(b: u8) {
-    io::print_hex(STDOUT_FILENO, b as u64, 2);
+fn digits(rt: &impl Print, b: u8) -> io::Result<()> {
+    print!(rt; "{b:02x}")
 }
 
-fn byte(s: &[u8], i: usize) {
+fn byte(rt: &impl Print, s: &[u8], i: usize) -> io::Result<()> {
     if i < s.len() {
-        digits(s[i]);
+        return digits(rt, s[i]);
     }
+    Ok(())
 }
 
 // The first n bytes.
-pub(crate) fn hex(s: &[u8], n: usize) {
-    let mut i: usize = 0;
-    while i < n {
-        byte(s, i);
-        i += 1;
+pub(crate) fn hex(rt: &impl Print, s: &[u8], n: usize) -> io::Result<()> {
+    for i in 0..n {
+        byte(rt, s, i)?;
     }
+    Ok(())
 }
 
-pub(crate) fn refused(r: Refusal) {
-    text(b"refused");
-    number(r.number() as u64);
+pub(crate) fn refused(rt: &impl Print, r: Refusal) -> io::Result<()> {
+    text(rt, b"refused")?;
+    number(rt, r.number() as u64)
 }
