@@ -12,11 +12,9 @@ fn put(out: &mut [u64], at: usize, x: u64) {
 }
 
 fn lay_rows(ids: &mut [u64], offsets: &mut [u64]) {
-    let mut i: u64 = 0;
-    while i < ROWS {
+    for i in 0..ROWS {
         put(ids, i as usize, i);
         put(offsets, i as usize, 5 * i);
-        i += 1;
     }
 }
 

@@ -103,31 +103,18 @@ fn all_refused(dest: &[u8]) -> bool {
 }
 
 fn same(a: &[u8], b: &[u8]) -> bool {
-    if a.len() != b.len() {
-        return false;
-    }
-    let mut i: usize = 0;
-    while i < a.len() {
-        if a[i] != b[i] {
-            return false;
-        }
-        i += 1;
-    }
-    true
+    a == b
 }
 
 // All stores but the last, one in a call; after how many of them every tile was refused, up to the first where one was not.
 fn step(dest: &mut [u8]) -> u64 {
-    let mut i: u64 = 0;
-    while i < LAST {
+    for i in 0..LAST {
         newer(dest, i, 1);
-        if all_refused(dest) {
-            i += 1;
-        } else {
+        if !all_refused(dest) {
             return i;
         }
     }
-    i
+    LAST
 }
 
 // Tiles 0 and 1, and the tile data.

@@ -102,8 +102,7 @@ fn entries(
     lengths: &[u32],
     offsets: &[u64],
 ) -> io::Result<()> {
-    let mut i: usize = 0;
-    while i < n {
+    for i in 0..n {
         entry(
             rt,
             slot64(ids, i),
@@ -111,7 +110,6 @@ fn entries(
             slot32(lengths, i),
             slot64(offsets, i),
         )?;
-        i += 1;
     }
     Ok(())
 }
