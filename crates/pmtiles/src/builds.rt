@@ -8,8 +8,7 @@ use crate::slots::{put_four, put_two};
 use writer::{Built, Sized};
 
 // out: how many bytes the root has, and the leaves.
-#[unsafe(no_mangle)]
-pub extern "C" fn pmt_build_sizes(
+pub fn pmt_build_sizes(
     count: usize,
     ids: &[u64],
     runs: &[u32],
@@ -35,8 +34,7 @@ pub extern "C" fn pmt_build_sizes(
 }
 
 // out: how many bytes the root has, and the leaves, then how many entries there are, and how many tiles they address.
-#[unsafe(no_mangle)]
-pub extern "C" fn pmt_build(
+pub fn pmt_build(
     count: usize,
     ids: &[u64],
     runs: &[u32],

@@ -20,8 +20,7 @@ fn clear(ids: &mut [u64], runs: &mut [u32], lengths: &mut [u32], offsets: &mut [
 
 // out: how many entries, and how many bytes they took. A refusal leaves every slot of all four stores zero, also where
 // out is too short.
-#[unsafe(no_mangle)]
-pub extern "C" fn pmt_directory_read(
+pub fn pmt_directory_read(
     bytes: &[u8],
     ids: &mut [u64],
     runs: &mut [u32],

@@ -67,8 +67,7 @@ fn put_degrees(out: &mut [f64], d: Degrees)
 }
 
 // out: the 19 numbers, clustered as 1 or 0. degrees: the six degrees.
-#[unsafe(no_mangle)]
-pub extern "C" fn pmt_header_read(bytes: &[u8], out: &mut [u64], degrees: &mut [f64]) -> u8
+pub fn pmt_header_read(bytes: &[u8], out: &mut [u64], degrees: &mut [f64]) -> u8
     ensures { HeaderTold (lent out.old degrees.old (read_header bytes.now)) result
         out.old out.new degrees.old degrees.new }
 {
@@ -163,8 +162,7 @@ fn header_in(numbers: &[u64], degrees: &[f64]) -> Header
 
 // The header that the slots give, into the first 127 bytes. 1 for a version or a zoom above 255 and for a flag above 1;
 // then 4, 5 and 15 as the header's own writing has them, 4 and 5 for a code above 255 too.
-#[unsafe(no_mangle)]
-pub extern "C" fn pmt_header_write(numbers: &[u64], degrees: &[f64], bytes: &mut [u8]) -> u8
+pub fn pmt_header_write(numbers: &[u64], degrees: &[f64], bytes: &mut [u8]) -> u8
     ensures { HeaderMade (making_header numbers.now degrees.now (length bytes.old)) result
         bytes.old bytes.new }
 {

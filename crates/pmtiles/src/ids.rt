@@ -25,8 +25,7 @@ fn coord_of(id: u64) -> CoordAnswer
 }
 
 // out: the id.
-#[unsafe(no_mangle)]
-pub extern "C" fn pmt_tile_id(z: u8, x: u32, y: u32, out: &mut [u64]) -> u8
+pub fn pmt_tile_id(z: u8, x: u32, y: u32, out: &mut [u64]) -> u8
     ensures { Answered (within 1 out.old (to_id z x y)) (λ i. i ∷ []) out.old result out.new }
 {
     if out.len() < 1 {
@@ -42,8 +41,7 @@ pub extern "C" fn pmt_tile_id(z: u8, x: u32, y: u32, out: &mut [u64]) -> u8
 }
 
 // out: zoom, x, y.
-#[unsafe(no_mangle)]
-pub extern "C" fn pmt_tile_coord(id: u64, out: &mut [u64]) -> u8
+pub fn pmt_tile_coord(id: u64, out: &mut [u64]) -> u8
     ensures { Answered (within 3 out.old (to_coord_lem id)) (λ (z, p). z ∷ p.0 ∷ p.1 ∷ []) out.old result out.new }
 {
     if out.len() < 3 {

@@ -1,5 +1,5 @@
-// The core for programs in C and Rust: include/pmtiles.h says the same in C. Each function answers a status, 0 for done
-// or found, 255 for absent, else a refusal's number, and puts its values into lent slots.
+// The core by lent slots: each function answers a status, 0 for done or found, 255 for absent, else a refusal's number, and
+// puts its values into lent slots. Crate pmtiles_c exports the same functions to C.
 #![tactic(auto)]
 
 mod builds;
@@ -10,3 +10,11 @@ mod lookups;
 mod publishes;
 mod slots;
 mod writes;
+
+pub use builds::{pmt_build, pmt_build_sizes};
+pub use directories::pmt_directory_read;
+pub use headers::{pmt_header_read, pmt_header_write};
+pub use ids::{pmt_tile_coord, pmt_tile_id};
+pub use lookups::{pmt_directory_find, pmt_lookup, pmt_lookup_coord};
+pub use publishes::{pmt_publish, pmt_total};
+pub use writes::{pmt_directory_write, pmt_encoded_len};

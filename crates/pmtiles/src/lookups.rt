@@ -56,23 +56,20 @@ fn told(a: LookupAnswer, out: &mut [u64]) -> u8
 }
 
 // out: where the contents start in the archive, and their length.
-#[unsafe(no_mangle)]
-pub extern "C" fn pmt_lookup(archive: &[u8], id: u64, out: &mut [u64]) -> u8
+pub fn pmt_lookup(archive: &[u8], id: u64, out: &mut [u64]) -> u8
     ensures { Sought (within 2 out.old (lookup archive.now id)) (λ x. x.start ∷ x.size ∷ []) out.old result out.new }
 {
     told(lookup_id(archive, id), out)
 }
 
-#[unsafe(no_mangle)]
-pub extern "C" fn pmt_lookup_coord(archive: &[u8], z: u8, x: u32, y: u32, out: &mut [u64]) -> u8
+pub fn pmt_lookup_coord(archive: &[u8], z: u8, x: u32, y: u32, out: &mut [u64]) -> u8
     ensures { Sought (within 2 out.old (lookup_coord_lem archive.now z x y)) (λ x. x.start ∷ x.size ∷ []) out.old result out.new }
 {
     told(lookup_at(archive, z, x, y), out)
 }
 
 // out: the entry's id, run, length and offset; a run of 0 is a pointer to a leaf.
-#[unsafe(no_mangle)]
-pub extern "C" fn pmt_directory_find(bytes: &[u8], id: u64, out: &mut [u64]) -> u8
+pub fn pmt_directory_find(bytes: &[u8], id: u64, out: &mut [u64]) -> u8
     ensures { Sought (within 4 out.old (searched (find_in bytes.now id))) entry_values out.old result out.new }
 {
     if out.len() < 4 {

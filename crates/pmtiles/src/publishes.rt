@@ -11,8 +11,7 @@ use acceptance::Counts;
 use publisher::{Published, Settings, Totalled};
 
 // out: how many stores there are for a root, metadata, data and leaves of so many bytes.
-#[unsafe(no_mangle)]
-pub extern "C" fn pmt_total(
+pub fn pmt_total(
     root: u64,
     metadata: u64,
     tiles: u64,
@@ -74,8 +73,7 @@ fn counts_in(counts: &[u64]) -> Counts
 // The next stores from a position on, as many as the budget and the plan allow. settings: tile compression, tile type,
 // then min, max and center zoom. degrees: the six degrees. counts: entries and addressed tiles. out: the new position.
 // 1 for a zoom above 255; then as the publisher's own tests have it, 4 and 5 for a code above 255 too.
-#[unsafe(no_mangle)]
-pub extern "C" fn pmt_publish(
+pub fn pmt_publish(
     settings: &[u64],
     degrees: &[f64],
     counts: &[u64],

@@ -7,8 +7,7 @@ ghost use Rattle.pmtiles.specs.Exports.{Answered, WriteTold, within};
 use writer::Length;
 
 // out: how many bytes the directory has.
-#[unsafe(no_mangle)]
-pub extern "C" fn pmt_encoded_len(
+pub fn pmt_encoded_len(
     count: usize,
     ids: &[u64],
     runs: &[u32],
@@ -33,8 +32,7 @@ pub extern "C" fn pmt_encoded_len(
 }
 
 // out: how many bytes were written.
-#[unsafe(no_mangle)]
-pub extern "C" fn pmt_directory_write(
+pub fn pmt_directory_write(
     count: usize,
     ids: &[u64],
     runs: &[u32],
