@@ -21,7 +21,7 @@ pub returns-in-Position : goal.returns-in-Position
 returns-in-Position c =
     let e = c.publish.ensures in
     published _ _ _ _ _ _ _ _ _ _ _ c.if-settings-lt5.false c.if-degrees-lt6.false c.if-counts-lt2.false c.if-out-lt1.false _ _
-    (sym c.zooms_fit.ensures ∙ c.if-zooms_fit.true) c.settings_in-s.ensures c.counts_in-c.ensures e.0 e.1
+    (sym c.zooms_fit.ensures ∙ c.if-zooms_fit.true) c.settings_in-s.ensures c.counts_in-c.ensures e.answer e.bytes
     _ (ap said_published (sym c.in-Position.is))
 
 pub returns-in-Refused : goal.returns-in-Refused
@@ -29,7 +29,7 @@ returns-in-Refused c =
     rw c.number.ensures
     (let e = c.publish.ensures in
     publish-refused _ _ _ _ _ _ _ _ _ _ _ c.if-settings-lt5.false c.if-degrees-lt6.false c.if-counts-lt2.false c.if-out-lt1.false _ _
-    (sym c.zooms_fit.ensures ∙ c.if-zooms_fit.true) c.settings_in-s.ensures c.counts_in-c.ensures e.0 e.1
+    (sym c.zooms_fit.ensures ∙ c.if-zooms_fit.true) c.settings_in-s.ensures c.counts_in-c.ensures e.answer e.bytes
     _ (ap said_published (sym c.in-Refused.is)))
 
 pub returns : goal.returns
