@@ -11,13 +11,7 @@ use acceptance::Counts;
 use publisher::{Published, Settings, Totalled};
 
 // out: how many stores there are for a root, metadata, data and leaves of so many bytes.
-pub fn pmt_total(
-    root: u64,
-    metadata: u64,
-    tiles: u64,
-    leaves: u64,
-    out: &mut [u64],
-) -> u8
+pub fn pmt_total(root: u64, metadata: u64, tiles: u64, leaves: u64, out: &mut [u64]) -> u8
     ensures { Answered (within 1 out.old (totalling root metadata tiles leaves)) (λ n. n ∷ []) out.old result out.new }
 {
     if out.len() < 1 {

@@ -1,7 +1,6 @@
 -- `builds::pmt_build` meets its contract. Assumes nothing.
 use mathlib.Core.Path.{ap, sym}
 use native.Mathlib.Omega.{arith}
-use borrow.Author.Rules.{rules}
 use Rattle.writer.specs.Answers.{said_built}
 use Rattle.pmtiles.proofs.Made.{build-refused, build-short, build-told}
 use Rattle.pmtiles.proofs.builds.pmt_build.Goals as goal

@@ -1,6 +1,5 @@
 -- `directories::clear` meets its contract. Assumes nothing.
 use mathlib.Core.Path.{refl}
-use borrow.Author.Rules.{rules}
 use Rattle.pmtiles.proofs.Stores.{no-directory}
 use Rattle.pmtiles.proofs.directories.clear.Goals as goal
 

@@ -1,7 +1,6 @@
 -- `directories::pmt_directory_read` meets its contract. Assumes nothing.
 use mathlib.Core.Path.{ap}
 use native.Mathlib.Omega.{arith}
-use borrow.Author.Rules.{rules}
 use Rattle.directory.specs.Answers.{said_read}
 use Rattle.pmtiles.proofs.Stores.{read_told, refused-told, short-told}
 use Rattle.pmtiles.proofs.directories.pmt_directory_read.Goals as goal

@@ -1,7 +1,6 @@
 -- `headers::fits` meets its contract. Assumes nothing.
 use mathlib.Core.Path.{refl}
 use borrow.Author.Tests.{le-leb, lt-leb}
-use borrow.Author.Rules.{rules}
 use Rattle.pmtiles.specs.Headers.{fitting}
 use Rattle.pmtiles.proofs.headers.fits.Goals as goal
 

@@ -1,6 +1,5 @@
 -- `headers::header_in` meets its contract. Assumes nothing.
 use lib.Dec.{eqb}
-use borrow.Author.Rules.{rules}
 use Rattle.pmtiles.specs.Headers.{header_with, number_in}
 use Rattle.pmtiles.proofs.headers.header_in.Goals as goal
 

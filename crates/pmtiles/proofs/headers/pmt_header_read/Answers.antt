@@ -1,7 +1,6 @@
 -- `headers::pmt_header_read` meets its contract. Assumes nothing.
 use mathlib.Core.Path.{◌∙◌, ap, sym}
 use native.Mathlib.Omega.{arith}
-use borrow.Author.Rules.{rules}
 use Rattle.header.specs.Answers.{said_read}
 use Rattle.pmtiles.proofs.HeaderSlots.{few-degrees, few-slots, header-given, header_refused}
 use Rattle.pmtiles.proofs.headers.pmt_header_read.Goals as goal

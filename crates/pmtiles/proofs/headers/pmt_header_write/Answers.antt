@@ -1,7 +1,6 @@
 -- `headers::pmt_header_write` meets its contract. Assumes nothing.
 use mathlib.Core.Path.{◌∙◌, ap, sym}
 use native.Mathlib.Omega.{arith}
-use borrow.Author.Rules.{rules}
 use Rattle.header.specs.Answers.{said_written}
 use Rattle.pmtiles.specs.Exports.{status}
 use Rattle.pmtiles.proofs.HeaderSlots.{few-given, few-numbers, header_made, unfit}

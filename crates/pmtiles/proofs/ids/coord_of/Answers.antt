@@ -1,7 +1,6 @@
 -- `ids::coord_of` meets its contract. Assumes nothing.
 use Prim.Native.Nat.{ℕ}
 use mathlib.Core.Path.{◌∙◌, ap, sym}
-use borrow.Author.Rules.{rules}
 use Rattle.refusal.specs.Out.{Out, ◌>>=◌}
 use Rattle.tile.specs.Answers.{said_id, to_coord_lem}
 use Rattle.tile.specs.declared.IdAnswer.{IdAnswer}

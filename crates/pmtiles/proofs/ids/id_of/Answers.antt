@@ -1,7 +1,6 @@
 -- `ids::id_of` meets its contract. Assumes nothing.
 use Prim.Native.Nat.{ℕ}
 use mathlib.Core.Path.{◌∙◌, ap, sym}
-use borrow.Author.Rules.{rules}
 use Rattle.refusal.specs.Out.{Out, ◌>>=◌}
 use Rattle.tile.specs.Answers.{said_coord, to_id}
 use Rattle.tile.specs.declared.CoordAnswer.{CoordAnswer}

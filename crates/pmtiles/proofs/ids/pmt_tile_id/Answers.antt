@@ -2,7 +2,6 @@
 use mathlib.Core.Path.{◌∙◌, ap, sym}
 use mathlib.Core.List.{◌∷◌, []}
 use native.Mathlib.Omega.{arith}
-use borrow.Author.Rules.{rules}
 use Rattle.tile.specs.Answers.{said_id}
 use Rattle.pmtiles.proofs.Told.{given, refused, short}
 use Rattle.pmtiles.proofs.ids.pmt_tile_id.Goals as goal

@@ -1,6 +1,5 @@
 -- `lookups::find_id` meets its contract. Assumes nothing.
 use mathlib.Core.Path.{◌∙◌, ap}
-use borrow.Author.Rules.{rules}
 use Rattle.directory.specs.Search.{find_in}
 use Rattle.tile.proofs.Ids.{made-is, not_made}
 use Rattle.pmtiles.proofs.lookups.find_id.Goals as goal

@@ -1,7 +1,6 @@
 -- `lookups::lookup_at` meets its contract. Assumes nothing.
 use Prim.Native.Nat.{ℕ}
 use mathlib.Core.Path.{◌∙◌, ap}
-use borrow.Author.Rules.{rules}
 use Rattle.reader.specs.Lookup.{lookup_coord_lem}
 use Rattle.tile.proofs.Ids.{coord-made-is, coord-not-made}
 use Rattle.reader.proofs.Lookups.{no-coord}

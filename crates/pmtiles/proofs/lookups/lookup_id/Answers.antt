@@ -1,6 +1,5 @@
 -- `lookups::lookup_id` meets its contract. Assumes nothing.
 use mathlib.Core.Path.{◌∙◌, ap}
-use borrow.Author.Rules.{rules}
 use Rattle.reader.specs.Lookup.{lookup}
 use Rattle.tile.proofs.Ids.{made-is, not_made}
 use Rattle.pmtiles.proofs.lookups.lookup_id.Goals as goal

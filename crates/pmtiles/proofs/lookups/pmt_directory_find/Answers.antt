@@ -1,7 +1,6 @@
 -- `lookups::pmt_directory_find` meets its contract. Assumes nothing.
 use mathlib.Core.Path.{ap}
 use native.Mathlib.Omega.{arith}
-use borrow.Author.Rules.{rules}
 use Rattle.pmtiles.specs.Exports.{entry_values, searched}
 use Rattle.pmtiles.proofs.Told.{no_room, nothing, search-refused, there}
 use Rattle.pmtiles.proofs.lookups.pmt_directory_find.Goals as goal

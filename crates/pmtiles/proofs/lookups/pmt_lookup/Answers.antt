@@ -1,5 +1,4 @@
 -- `lookups::pmt_lookup` meets its contract. Assumes nothing.
-use borrow.Author.Rules.{rules}
 use Rattle.pmtiles.proofs.lookups.pmt_lookup.Goals as goal
 
 pub returns : goal.returns

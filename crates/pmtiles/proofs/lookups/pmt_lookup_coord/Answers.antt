@@ -1,5 +1,4 @@
 -- `lookups::pmt_lookup_coord` meets its contract. Assumes nothing.
-use borrow.Author.Rules.{rules}
 use Rattle.pmtiles.proofs.lookups.pmt_lookup_coord.Goals as goal
 
 pub returns : goal.returns

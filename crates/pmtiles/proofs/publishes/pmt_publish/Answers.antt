@@ -1,6 +1,5 @@
 -- `publishes::pmt_publish` meets its contract. Assumes nothing.
 use mathlib.Core.Path.{◌∙◌, ap, sym}
-use borrow.Author.Rules.{rules}
 use Rattle.publisher.specs.Answers.{said_published}
 use Rattle.pmtiles.proofs.PublishSlots.{few-counts, few-degrees, few-settings, no_slot, publish-refused, published, zoom-large}
 use Rattle.pmtiles.proofs.publishes.pmt_publish.Goals as goal

@@ -2,7 +2,6 @@
 use mathlib.Core.Path.{◌∙◌, ap, sym}
 use mathlib.Core.List.{◌∷◌, []}
 use native.Mathlib.Omega.{arith}
-use borrow.Author.Rules.{rules}
 use Rattle.publisher.specs.Answers.{said_total}
 use Rattle.pmtiles.proofs.Told.{given, refused, short}
 use Rattle.pmtiles.proofs.publishes.pmt_total.Goals as goal

@@ -1,5 +1,4 @@
 -- `publishes::settings_in` meets its contract. Assumes nothing.
-use borrow.Author.Rules.{rules}
 use Rattle.pmtiles.specs.Publishes.{settings_with}
 use Rattle.pmtiles.proofs.publishes.settings_in.Goals as goal
 

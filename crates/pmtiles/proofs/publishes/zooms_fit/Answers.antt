@@ -1,7 +1,6 @@
 -- `publishes::zooms_fit` meets its contract. Assumes nothing.
 use mathlib.Core.Path.{refl}
 use borrow.Author.Tests.{le-leb, lt-leb}
-use borrow.Author.Rules.{rules}
 use Rattle.pmtiles.specs.Publishes.{zooms_fit_lem}
 use Rattle.pmtiles.proofs.publishes.zooms_fit.Goals as goal
 

@@ -1,7 +1,6 @@
 -- `writes::pmt_directory_write` meets its contract. Assumes nothing.
 use mathlib.Core.Path.{ap, sym}
 use native.Mathlib.Omega.{arith}
-use borrow.Author.Rules.{rules}
 use Rattle.writer.specs.Answers.{said_length}
 use Rattle.pmtiles.proofs.Made.{write-refused, write-short, write-told}
 use Rattle.pmtiles.proofs.writes.pmt_directory_write.Goals as goal

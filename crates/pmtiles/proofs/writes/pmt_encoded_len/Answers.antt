@@ -2,7 +2,6 @@
 use mathlib.Core.Path.{◌∙◌, ap, sym}
 use mathlib.Core.List.{◌∷◌, []}
 use native.Mathlib.Omega.{arith}
-use borrow.Author.Rules.{rules}
 use Rattle.writer.specs.Answers.{said_length}
 use Rattle.pmtiles.proofs.Told.{given, refused, short}
 use Rattle.pmtiles.proofs.writes.pmt_encoded_len.Goals as goal
