@@ -7,7 +7,7 @@ pub loop-low-init : goal.loop-low-init
 loop-low-init c = record { ordered = omega arith; below = λ h. absurd (omega arith); above = λ h. absurd (omega arith) }
 
 pub loop-low-preserved-then-ids-mid : goal.loop-low-preserved-then-ids-mid
-loop-low-preserved-then-ids-mid c = raised c.loop-low.invariant _ (omega arith) c.if-ids-mid.true
+loop-low-preserved-then-ids-mid c = raised c.loop-low.invariant _ (omega arith) (omega (arith, c.if-ids-mid.true))
 
 pub loop-low-preserved : goal.loop-low-preserved
 loop-low-preserved c = lowered c.loop-low.invariant _ (omega arith) (omega arith) c.if-ids-mid.false

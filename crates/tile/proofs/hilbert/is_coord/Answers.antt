@@ -9,7 +9,7 @@ returns-then-z-gt31 c = rw (lt-leb c.args.z 31 c.if-z-gt31.true)
 
 pub returns-then-side-x : goal.returns-then-side-x
 returns-then-side-x c = let s = c.args in let q = c.power-side.ensures in
-    rw (le-leb s.z 31 (omega arith), le-ltb s.x (2 ^ s.z) (rw q at c.if-side-x.true))
+    rw (le-leb s.z 31 (omega arith), le-ltb s.x (2 ^ s.z) (omega (arith, q, c.if-side-x.true)))
 
 pub returns-then-side-y : goal.returns-then-side-y
 returns-then-side-y c = let s = c.args in let q = c.power-side.ensures in

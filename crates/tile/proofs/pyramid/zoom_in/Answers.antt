@@ -13,7 +13,7 @@ loop-width-preserved-then-bases-z c =
     let l = c.loop-width in
     let h : ℕ = l.width / 2 in
     let e : l.z + h + (l.width - h) ≡ l.z + l.width = omega arith in
-    (omega arith, omega arith, rw (c.requires.0 (l.z + h) (omega arith)) at c.if-bases-z.true, rw e l.invariant.3)
+    (omega arith, omega arith, omega (arith, c.requires.0 (l.z + h) (omega arith), c.if-bases-z.true), rw e l.invariant.3)
 
 pub loop-width-preserved : goal.loop-width-preserved
 loop-width-preserved c =
