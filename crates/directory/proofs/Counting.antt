@@ -1,14 +1,18 @@
 -- A count against what a directory may have and against four stores. Assumes nothing.
 use Prim.Native.Nat.{ℕ, ◌≤◌, ◌<◌}
-use mathlib.Core.Path.{◌≡◌, sym, ◌∙◌}
-use mathlib.Core.List.{List}
+use mathlib.Core.Path.{◌≡◌, refl, sym, ◌∙◌}
+use mathlib.Core.List.{List, [], ◌∷◌}
+use mathlib.Core.Option.{none}
 use borrow.Author.Tests.{le-leb, leb-true, lt-leb}
 use native.Mathlib.Omega.{arith}
 use lib.Dec.{leb}
 use lib.ListN.{length}
 use Rattle.refusal.specs.Out.{Out, ok, bad, ◌>>=◌, need}
 use Rattle.refusal.proofs.OutLaws.{need-bind, need-ok}
+use Rattle.varint.specs.Varint.{read}
 use Rattle.directory.specs.Entries.{max_count}
+use Rattle.directory.specs.Columns.{columns}
+use Rattle.directory.specs.Decode.{decode}
 use Rattle.directory.specs.Search.{counting, shortest}
 
 -- a count that the shortest store has room for fits each
@@ -50,3 +54,17 @@ module _ (n : ℕ) (a b c d : List ℕ) {r : Out ℕ} (e : r ≡ counting n a b 
 
     pub count-passed : {o : Out ℕ} (x : Out ℕ) → o ≡ x → o ≡ counting n a b c d x
     count-passed x p = p ∙ sym (enough n a b c d x sound.0 sound.1)
+
+-- ---- the largest count: 16,777,216 is taken, one more is not
+
+module _ {A : Type 0} (a b c d : List ℕ) (x : Out A) where
+  pub most-taken : 16777216 ≤ shortest a b c d → counting 16777216 a b c d x ≡ x
+  most-taken h = enough 16777216 a b c d x (omega arith) h
+
+  pub one-too-many : counting 16777217 a b c d x ≡ bad 19
+  one-too-many = many 16777217 a b c d x (omega arith)
+
+-- in bytes too: where the count is taken, it is the first id that is missing
+pub counts-read : (decode none (128 ∷ 128 ∷ 128 ∷ 8 ∷ []) ≡ bad 8) × (decode none (129 ∷ 128 ∷ 128 ∷ 8 ∷ []) ≡ bad 19)
+unfolding decode columns read
+counts-read = (refl, refl)

@@ -1,5 +1,6 @@
 pub mod Counting
 pub mod Checks
+pub mod Plain
 pub mod Offsets
 pub mod Column
 pub mod Round

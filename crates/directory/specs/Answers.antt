@@ -1,10 +1,13 @@
 -- What the functions on directories answer, in the words of the definitions. Assumes nothing.
 use Rattle.std.specs.Prelude.{ℕ, List, ◌++◌, map, drop, length, replicate, take}
-use Rattle.refusal.specs.Out.{Out, ok, bad, ◌>>=◌}
+use Rattle.refusal.specs.Out.{Out, ok, bad, ◌>>=◌, need}
 use Rattle.refusal.specs.Number.{number_of}
+use Rattle.tile.specs.Answers.{is_id}
 use Rattle.directory.specs.Entries.{Entry, after, check_one, entry}
 use Rattle.directory.specs.Search.{Hit, absent, tile, leaf}
 use Rattle.directory.specs.declared.DirEntry.{DirEntry}
+use Rattle.directory.specs.declared.EntryAnswer.{EntryAnswer}
+use Rattle.directory.specs.declared.EntryAnswer.TheVariants as ea
 use Rattle.directory.specs.declared.DirectoryRead.{DirectoryRead}
 use Rattle.directory.specs.declared.DirectoryRead.TheVariants as dr
 use Rattle.directory.specs.declared.Found.{Found}
@@ -18,6 +21,14 @@ use Rattle.directory.specs.declared.columns.Column.TheVariants as co
 
 abbrev pub entry_of : DirEntry → Entry
 entry_of e = record { id = e.tile_id.0; run = e.run_length; len = e.length; off = e.offset.0 }
+
+abbrev pub said_entry : EntryAnswer → Out Entry
+said_entry (ea.Entry e) = ok (entry_of e)
+said_entry (ea.Refused r) = bad (number_of r)
+
+-- an entry whose id is a tile's, else 13
+unfoldable pub new_entry : ℕ → ℕ → ℕ → ℕ → Out Entry
+new_entry id run len off = need (is_id id) 13 (ok (entry id run len off))
 
 abbrev pub said_found : Found → Out Hit
 said_found (f.Tile e) = ok (tile (entry_of e))

@@ -1,17 +1,34 @@
 // The checks that an entry must pass, and what an offset's code stands for.
 ghost use Rattle.std.specs.Prelude.{◌≡◌};
 ghost use Rattle.directory.specs.Columns.{end_of, offset_of};
-ghost use Rattle.directory.specs.Answers.{checked, said_checked, said_offset};
+ghost use Rattle.directory.specs.Answers.{checked, new_entry, said_checked, said_entry, said_offset};
 
-use crate::{Checked, Offset, OffsetAnswer};
+use crate::{Checked, DirEntry, EntryAnswer, Offset, OffsetAnswer};
 use refusal::Refusal;
-use tile::TileId;
+use tile::{IdAnswer, TileId};
 
 // A number of 32 bits as one of 64.
 pub fn wide(x: u32) -> u64
     ensures { result ≡ x }
 {
     x as u64
+}
+
+impl DirEntry {
+    // An entry whose id was a plain number until now.
+    pub fn new(id: u64, run_length: u32, length: u32, offset: Offset) -> EntryAnswer
+        ensures { said_entry result ≡ new_entry id run_length length offset.0 }
+    {
+        match TileId::new(id) {
+            IdAnswer::Id(tile_id) => EntryAnswer::Entry(DirEntry {
+                tile_id,
+                run_length,
+                length,
+                offset,
+            }),
+            IdAnswer::Refused(_) => EntryAnswer::Refused(Refusal::EntryIdTooLarge),
+        }
+    }
 }
 
 // An entry against the least id that may come. Ids are plain numbers here: that one is a tile's is what is checked.

@@ -31,6 +31,13 @@ pub struct DirEntry {
     pub offset: Offset,
 }
 
+// An entry made of plain numbers, if its id is a tile's.
+#[derive(Clone, Copy)]
+pub enum EntryAnswer {
+    Entry(DirEntry),
+    Refused(Refusal),
+}
+
 // What an offset's code stands for.
 #[derive(Clone, Copy)]
 pub enum OffsetAnswer {
