@@ -5,3 +5,4 @@ pub mod Only
 pub mod Admitted
 pub mod Runs
 pub mod Stores
+pub mod Numbers
