@@ -30,7 +30,7 @@ pub grown-here : (f k : ℕ) (es : List Entry) → root_length_lem k es ≤ root
 grown-here zero k es h = refl
 grown-here (suc f) k es h = rw (le-leb (root_length_lem k es) root_room h)
 
-grown-more : (f k : ℕ) (es : List Entry) → root_room < root_length_lem k es → leaf_size (suc f) k es ≡ leaf_size f (k + k / 5) es
+pub grown-more : (f k : ℕ) (es : List Entry) → root_room < root_length_lem k es → leaf_size (suc f) k es ≡ leaf_size f (k + k / 5) es
 grown-more f k es h = rw (lt-leb (root_length_lem k es) root_room h)
 
 -- any bound that is large enough gives the same size

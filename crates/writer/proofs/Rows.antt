@@ -1,4 +1,5 @@
--- Examples: tiles 0, 1, 2 and so on, of 5 bytes each, end to end; and how leaf sizes grow. Assumes nothing.
+-- Examples, with numbers as they were given to us and not as the definitions have them: tiles 0, 1, 2 and so on, of 5 bytes each, end
+-- to end; where a root only ends; how leaf sizes grow. Assumes nothing.
 use Prim.Native.Nat.{ℕ, zero, suc, ◌+◌, ◌-◌, ◌*◌, ◌/◌, ◌≤◌, ◌<◌}
 use mathlib.Core.Path.{◌≡◌, refl, ap, sym, ◌∙◌}
 use mathlib.Core.List.{List, [], ◌∷◌, append-nil}
@@ -11,11 +12,11 @@ use Rattle.varint.specs.Varint.{put, wide}
 use Rattle.varint.proofs.Shortest.{put_one}
 use Rattle.directory.specs.Entries.{Entry, entry}
 use Rattle.directory.specs.Encode.{code_of, encode}
-use Rattle.writer.specs.Build.{Directories, build, first_id, with_leaves}
+use Rattle.writer.specs.Build.{Directories, build, first_id, leaf_size, root_room, with_leaves}
 use Rattle.writer.specs.Cells.{size_from}
 use Rattle.writer.specs.Cuts.{first_size_lem}
 use Rattle.writer.proofs.Chunks.{chunks-nil}
-use Rattle.writer.proofs.Growth.{build-flat, build-large, grown-here, leaf_of, one-fits}
+use Rattle.writer.proofs.Growth.{build-flat, build-large, build-many, grown-here, grown-more, leaf_of, one-fits, root_length_lem}
 use Rattle.writer.proofs.Lengths.{encode-length, size-more, size_none, size-one}
 
 pub row : ℕ → ℕ → List Entry
@@ -97,7 +98,33 @@ root-4064 =
     ∙ one-leaf 4096 (row 4064 0) (rw row_count (omega arith)) (rw row_count (omega arith))
     ∙ rw (row_first 4063 0, size-4064, one_pointer)
 
--- the leaf sizes that are tried
+-- ---- where a root only ends
+
+-- header and root are the first 16,384 bytes
+pub root-behind-header : 127 + root_room ≡ 16384
+root-behind-header = refl
+
+module _ (es : List Entry) where
+  pub root-only : length es ≤ 16383 → length (encode es) ≤ 16257 → build es ≡ record { root = encode es; leaves = [] }
+  root-only h k = build-flat es (omega arith) k
+
+  pub leaves-by-size : length es ≤ 16383 → 16258 ≤ length (encode es) → build es ≡ with_leaves (leaf_of es) es
+  leaves-by-size h k = build-large es (omega arith) (omega arith)
+
+  pub leaves-by-count : 16384 ≤ length es → build es ≡ with_leaves (leaf_of es) es
+  leaves-by-count = build-many es
+
+-- ---- the leaf sizes that are tried
+
+pub first-sizes : (first_size_lem 0 ≡ 4096) × (first_size_lem 14339499 ≡ 4096) × (first_size_lem 14339500 ≡ 4097)
+unfolding first_size_lem
+first-sizes = (refl, refl, refl)
+
 pub leaf-sizes : (first_size_lem 4064 ≡ 4096) × (4096 + 4096 / 5 ≡ 4915) × (4915 + 4915 / 5 ≡ 5898) × (5898 + 5898 / 5 ≡ 7077)
 unfolding first_size_lem
 leaf-sizes = (refl, refl, refl, refl)
+
+-- where no root fits before them
+pub fourth-size : (f : ℕ) (es : List Entry) → 16257 < root_length_lem 4096 es → 16257 < root_length_lem 4915 es → 16257 < root_length_lem 5898 es
+    → leaf_size (suc (suc (suc f))) 4096 es ≡ leaf_size f 7077 es
+fourth-size f es a b c = grown-more (suc (suc f)) 4096 es a ∙ grown-more (suc f) 4915 es b ∙ grown-more f 5898 es c
