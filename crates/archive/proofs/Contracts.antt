@@ -20,6 +20,9 @@ use Rattle.publisher.specs.Plan.{stored_from}
 use Rattle.publisher.specs.Publish.{publishing}
 use Rattle.publisher.specs.Calls.{Parts, Standing, calling, stores_of}
 use Rattle.publisher.specs.declared.Published.{Published}
+use Rattle.publisher.proofs.Admitted.{admitted}
+use Rattle.writer.specs.Stock.{Typed}
+use Rattle.archive.specs.Demand.{Publication, Publishable, leaves_of, parts_of, root_of}
 
 -- ---- what was built
 
@@ -63,14 +66,14 @@ module _ (n : ℕ) (ids runs lens offs : List ℕ) (size : ℕ) (root leaves roo
 
 -- ---- a call
 
-abbrev answering : Parts → ℕ → Standing → Out ℕ
+abbrev pub answering : Parts → ℕ → Standing → Out ℕ
 answering x budget now =
     publishing x.settings (length x.root) (length x.metadata) (length x.tiles) (length x.leaves) (length now.dest) now.position budget
 
 abbrev leaving : Parts → ℕ → Standing → List ℕ
 leaving x budget now = stored_from now.position budget (stores_of x) now.dest
 
-abbrev standing : ℕ → List ℕ → Standing
+abbrev pub standing : ℕ → List ℕ → Standing
 standing position dest = record { position = position; dest = dest }
 
 call_by : (x y : Out ℕ) (old new dest : List ℕ) → y ≡ x → dest ≡ afterwards x old (λ _. new)
@@ -83,3 +86,23 @@ pub called : (x : Parts) (budget : ℕ) (now : Standing) (r : Published) (dest :
     → dest ≡ afterwards (answering x budget now) now.dest (λ _. leaving x budget now)
     → calling x budget now ≡ said_published r >>= λ next. ok (standing next dest)
 called x budget now r dest = call_by (answering x budget now) (said_published r) now.dest (leaving x budget now) dest
+
+-- what the builder took and a call of `publish` did not refuse may be published: the demand presumes no more than the code tests
+pub publishable-is : (p : Publication) (dest : List ℕ) (count : ℕ) (ids runs lengths offsets : List ℕ) (position budget next : ℕ) → Typed ids runs lengths offsets
+    → accepting count ids runs lengths offsets (length p.tiles) ≡ ok p.entries
+    → answering (parts_of p) budget (standing position dest) ≡ ok next → Publishable p dest
+publishable-is p dest count ids runs lengths offsets position budget next t a e =
+    let h = admitted p.settings (length (root_of p)) (length p.metadata) (length p.tiles) (length (leaves_of p)) (length dest) position budget next e in
+    record {
+      count = count;
+      ids = ids;
+      runs = runs;
+      lengths = lengths;
+      offsets = offsets;
+      typed = t;
+      accepted = a;
+      compression = h.0.compression;
+      type = h.0.type;
+      fits = h.0.sum;
+      room = h.0.room;
+    }

@@ -6,3 +6,7 @@ pub mod Images
 pub mod Placed
 pub mod Small
 pub mod Examples
+pub mod Kept
+pub mod Promise
+pub mod Numbered
+pub mod Library
