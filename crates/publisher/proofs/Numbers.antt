@@ -1,4 +1,4 @@
--- The numbers of the layout, as they were given to us and not as the definitions have them. Assumes nothing.
+-- The numbers of the layout, written out and not as the definitions have them. Assumes nothing.
 use Prim.Native.Nat.{ℕ, ◌+◌, ◌<◌}
 use mathlib.Core.Path.{◌≡◌, refl}
 use native.Mathlib.Omega.{arith}

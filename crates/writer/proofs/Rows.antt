@@ -1,5 +1,5 @@
--- Examples, with numbers as they were given to us and not as the definitions have them: tiles 0, 1, 2 and so on, of 5 bytes each, end
--- to end; where a root only ends; how leaf sizes grow. Assumes nothing.
+-- Examples, with numbers written out and not as the definitions have them: tiles 0, 1, 2 and so on, of 5 bytes each, end to end; where a
+-- root only ends; how leaf sizes grow. Assumes nothing.
 use Prim.Native.Nat.{ℕ, zero, suc, ◌+◌, ◌-◌, ◌*◌, ◌/◌, ◌≤◌, ◌<◌}
 use mathlib.Core.Path.{◌≡◌, refl, ap, sym, ◌∙◌}
 use mathlib.Core.List.{List, [], ◌∷◌, append-nil}
