@@ -27,6 +27,11 @@ use Rattle.writer.proofs.Parts.{differences-ids, fitting-rises}
 use Rattle.writer.proofs.Puts.{bytes_of}
 use Rattle.writer.proofs.Stocks.{weaken}
 
+-- a leaf's pointer has the id of the leaf's first entry
+pub pointer-first : (at : ℕ) (e : Entry) (es : List Entry) (cs : List (List Entry))
+    → ids (pointers at ((e ∷ es) ∷ cs)) ≡ e.id ∷ ids (pointers (at + length (encode (e ∷ es))) cs)
+pointer-first at e es cs = refl
+
 pub valid-after : (lo : ℕ) (xs ys : List Entry) → Valid lo (xs ++ ys) → Valid lo ys
 valid-after lo [] ys v = v
 valid-after lo (x ∷ xs) ys v =
