@@ -22,7 +22,8 @@ use Rattle.publisher.specs.Calls.{Parts, Standing, calling, stores_of}
 use Rattle.publisher.specs.declared.Published.{Published}
 use Rattle.publisher.proofs.Admitted.{admitted}
 use Rattle.writer.specs.Stock.{Typed}
-use Rattle.archive.specs.Demand.{Publication, Publishable, leaves_of, parts_of, root_of}
+use Rattle.archive.specs.Demand.{Demand3, Publication, Publishable, leaves_of, parts_of, root_of}
+use Rattle.archive.proofs.Demand.{demand-3}
 
 -- ---- what was built
 
@@ -106,3 +107,10 @@ publishable-is p dest count ids runs lengths offsets position budget next t a e 
       fits = h.0.sum;
       room = h.0.room;
     }
+
+-- and so the demand holds of it
+pub demand-of : (p : Publication) (dest : List ℕ) (count : ℕ) (ids runs lengths offsets : List ℕ) (position budget next : ℕ) → Typed ids runs lengths offsets
+    → accepting count ids runs lengths offsets (length p.tiles) ≡ ok p.entries
+    → answering (parts_of p) budget (standing position dest) ≡ ok next → Demand3 p dest
+demand-of p dest count ids runs lengths offsets position budget next t a e =
+    demand-3 p dest (publishable-is p dest count ids runs lengths offsets position budget next t a e)

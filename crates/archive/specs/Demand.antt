@@ -101,7 +101,7 @@ asked archive (by_coord z x y hz hx hy) = lookup_coord_lem archive z x y
 abbrev pub contents : Publication → Entry → Range
 contents p e = record { start = 16384 + length p.metadata + e.off; size = e.len }
 
--- after all stores; `List.Memᴰ e es`: e is one of es
+-- after all stores; `Memᴰ e es`: e is one of es
 pub record Whole (p : Publication) (archive : List ℕ) : Type 0 where
   pub found : (t : Tile) (e : Entry) → Memᴰ e p.entries → Covers e (id_of t) → asked archive t ≡ ok (some (contents p e))
   pub only_covered : (t : Tile) (r : Range) → asked archive t ≡ ok (some r) → (e : Entry) × Memᴰ e p.entries × Covers e (id_of t) × (r ≡ contents p e)

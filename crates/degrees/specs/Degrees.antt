@@ -1,5 +1,5 @@
 -- Coordinates: whole numbers of ten-millionths of a degree, and the floats that a record holds for them. Assumes nothing.
--- A float is `nan`, an infinity, or `fin s m e`: m * 2 ^ e, that is m * up e / down e, negative where s is true (`lib.Ieee`).
+-- A float is `nan`, an infinity, or `fin s m e`: m * 2 ^ e, that is m * up e / down e, negative where s is true (`Rattle.std.specs.Float`).
 use Rattle.std.specs.Prelude.{ℕ, ◌+◌, ◌-◌, ◌*◌, ◌/◌, ◌^◌, min, Bool, false, cond, ℤ, pos, neg_ℤ, Float}
 use Rattle.std.specs.Float.Ieee as Ieee
 use Rattle.std.specs.Float.{nan, inf, fin, binary64}

@@ -11,7 +11,7 @@ returns-then-room-size c =
 pub returns-then-position-stores : goal.returns-then-position-stores
 returns-then-position-stores c =
     let a = c.args in
-    position-large a.size a.stores a.room a.position a.budget c.if-room-size.false c.if-position-stores.true
+    position-large a.size a.stores a.room a.position a.budget c.if-room-size.false (omega (arith, c.if-position-stores.true))
 
 pub returns-then-budget-stores : goal.returns-then-budget-stores
 returns-then-budget-stores c =

@@ -5,7 +5,7 @@ use borrow.Author.Tests.{le-leb, lt-leb, lt-ltb, le-ltb}
 use Rattle.tile.proofs.hilbert.is_coord.Goals as goal
 
 pub returns-then-z-gt31 : goal.returns-then-z-gt31
-returns-then-z-gt31 c = rw (lt-leb c.args.z 31 c.if-z-gt31.true)
+returns-then-z-gt31 c = rw (lt-leb c.args.z 31 (omega (arith, c.if-z-gt31.true)))
 
 pub returns-then-side-x : goal.returns-then-side-x
 returns-then-side-x c = let s = c.args in let q = c.power-side.ensures in

@@ -30,13 +30,6 @@ overflow_add-k c = record { fits = omega (arith, c.loop-p.invariant.1) }
 pub measure-p-requires-in-loop-p : goal.measure-p-requires-in-loop-p
 measure-p-requires-in-loop-p c = (omega (arith, c.loop-p.invariant.0), c.requires.0, c.requires.1)
 
-pub loop-p-smaller : goal.loop-p-smaller
-loop-p-smaller c =
-    let a = c.args in
-    let l = c.loop-p in
-    let g = grows (entries a.ids.now a.runs.now a.lengths.now a.offsets.now) a.count c.requires.0 l.p.leaf l.p.sizes.root l.invariant.3.root (omega (arith, l.invariant.0)) c.loop-p-test.true in
-    omega (arith, c.measure-p-in-loop-p.ensures.leaf, l.invariant.0)
-
 pub loop-p-preserved : goal.loop-p-preserved
 loop-p-preserved c =
     let a = c.args in
@@ -46,6 +39,13 @@ loop-p-preserved c =
     let g = grows es a.count c.requires.0 l.p.leaf l.p.sizes.root l.invariant.3.root (omega (arith, l.invariant.0)) c.loop-p-test.true in
     let q = c.measure-p-in-loop-p.ensures in
     (omega (arith, q.leaf, l.invariant.0), omega (arith, q.leaf), ap (λ (k : ℕ). leaf_size a.count k (part 0 a.count es)) q.leaf ∙ sym g.1 ∙ l.invariant.2, rw (sym q.leaf) at q)
+
+pub loop-p-smaller : goal.loop-p-smaller
+loop-p-smaller c =
+    let a = c.args in
+    let l = c.loop-p in
+    let g = grows (entries a.ids.now a.runs.now a.lengths.now a.offsets.now) a.count c.requires.0 l.p.leaf l.p.sizes.root l.invariant.3.root (omega (arith, l.invariant.0)) c.loop-p-test.true in
+    omega (arith, c.measure-p-in-loop-p.ensures.leaf, l.invariant.0)
 
 pub returns : goal.returns
 returns c =
