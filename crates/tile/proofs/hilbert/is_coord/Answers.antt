@@ -4,6 +4,10 @@ use native.Mathlib.Omega.{arith}
 use borrow.Author.Tests.{le-leb, lt-leb, lt-ltb, le-ltb}
 use Rattle.tile.proofs.hilbert.is_coord.Goals as goal
 
+pub returns : goal.returns
+returns c = let s = c.args in let q = c.power-side.ensures in
+    rw (le-leb s.z 31 (omega arith), lt-ltb s.x (2 ^ s.z) (rw q at c.if-side-x.false), lt-ltb s.y (2 ^ s.z) (rw q at c.if-side-y.false))
+
 pub returns-then-z-gt31 : goal.returns-then-z-gt31
 returns-then-z-gt31 c = rw (lt-leb c.args.z 31 (omega (arith, c.if-z-gt31.true)))
 
@@ -14,7 +18,3 @@ returns-then-side-x c = let s = c.args in let q = c.power-side.ensures in
 pub returns-then-side-y : goal.returns-then-side-y
 returns-then-side-y c = let s = c.args in let q = c.power-side.ensures in
     rw (le-leb s.z 31 (omega arith), lt-ltb s.x (2 ^ s.z) (rw q at c.if-side-x.false), le-ltb s.y (2 ^ s.z) (rw q at c.if-side-y.true))
-
-pub returns : goal.returns
-returns c = let s = c.args in let q = c.power-side.ensures in
-    rw (le-leb s.z 31 (omega arith), lt-ltb s.x (2 ^ s.z) (rw q at c.if-side-x.false), lt-ltb s.y (2 ^ s.z) (rw q at c.if-side-y.false))
