@@ -137,7 +137,7 @@ promised p g before dest position same m k =
     let all-is : total_of (parts_of p) ≡ total_of (parts_given g) = ap total_of same in
     record {
       as_it_was = k.as_it_was;
-      bad_magic_lem = λ some few t status out out' room e. answers dest t status out out' room e (bad 2) (k.during some (subst (λ (n : ℕ). position < n) (sym all-is) few) t);
+      bad_magic = λ some few t status out out' room e. answers dest t status out out' room e (bad 2) (k.during some (subst (λ (n : ℕ). position < n) (sym all-is) few) t);
       whole = λ all t status out out' room e. rw m at (told dest t status out out' room e p (k.after (all ∙ sym all-is)));
       in_plan = subst (λ (n : ℕ). position ≤ n) all-is k.in_plan;
     }

@@ -47,7 +47,7 @@ promised : (p : Publication) (before dest : List ℕ) (position : ℕ) → Kept 
 promised p before dest position k =
     record {
       as_it_was = k.as_it_was;
-      bad_magic_lem = λ some few t a e. one-lookup a (la.Refused re.InvalidMagicNumber) (answers-asked dest t a e ∙ k.during some few t);
+      bad_magic = λ some few t a e. one-lookup a (la.Refused re.InvalidMagicNumber) (answers-asked dest t a e ∙ k.during some few t);
       whole = λ all. told p dest (k.after all);
       in_plan = k.in_plan;
       next = λ some budget a d c. one-published a (pu.Position (position + min budget (total_of (parts_of p) - position))) (c.answer ∙ k.next some budget);

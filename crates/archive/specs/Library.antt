@@ -80,7 +80,7 @@ pub record Told (entries : List Entry) (start : ℕ) (t : Tile) (status : ℕ) (
 -- a row of calls from position 0 on found `before` in the destination, has come to a position, and has left `dest`
 pub record LibraryPromise3 (entries : List Entry) (g : Given) (before : List ℕ) (position : ℕ) (dest : List ℕ) : Type 0 where
   pub as_it_was : position ≡ 0 → dest ≡ before
-  pub bad_magic_lem : 0 < position → position < total_of (parts_given g) → (t : Tile) (status : ℕ) (out out' : List ℕ) → 2 ≤ length out
+  pub bad_magic : 0 < position → position < total_of (parts_given g) → (t : Tile) (status : ℕ) (out out' : List ℕ) → 2 ≤ length out
       → Answers dest t status out out' → (status ≡ 2) × (out' ≡ out)
   pub whole : position ≡ total_of (parts_given g) → (t : Tile) (status : ℕ) (out out' : List ℕ) → 2 ≤ length out
       → Answers dest t status out out' → Told entries (16384 + length g.metadata) t status out out'

@@ -77,7 +77,7 @@ pub record Promise3 (entries : List Entry) (x : Parts) (before : List ℕ) (posi
   -- before the first store the destination is as it was
   pub as_it_was : position ≡ 0 → dest ≡ before
   -- after some but not all, every valid tile is refused as bad magic
-  pub bad_magic_lem : 0 < position → position < total_of x → (t : Tile) (r : LookupAnswer) → Answers dest t r → r ≡ la.Refused re.InvalidMagicNumber
+  pub bad_magic : 0 < position → position < total_of x → (t : Tile) (r : LookupAnswer) → Answers dest t r → r ≡ la.Refused re.InvalidMagicNumber
   -- after all, a tile is found exactly if some entry's run covers its id
   pub whole : position ≡ total_of x → (t : Tile) (r : LookupAnswer) → Answers dest t r → Told entries (16384 + length x.metadata) t r
   -- a row never comes past the last store; and once a store is done, no call at its position is refused, so it can be cut and go on anywhere

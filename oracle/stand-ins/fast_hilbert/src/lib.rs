@@ -1,5 +1,5 @@
-//! Stand-in for fast_hilbert, written from the textbook rule (xy2d, d2xy and rot of the encyclopaedias),
-//! which readers of PMTiles use as we recall it, not from our own definition.
+//! Stand-in for fast_hilbert, written from the textbook rule (xy2d, d2xy and rot of the encyclopaedias), not
+//! from our own definition. As we recall, readers of PMTiles use that rule.
 
 fn rot(n: u64, x: &mut u64, y: &mut u64, rx: bool, ry: bool) {
     if !ry {
