@@ -1,51 +1,41 @@
 -- The builder's checks, one entry at a time. Assumes nothing.
-use Prim.Native.Nat.{ℕ, ◌+◌, ◌≤◌, ◌<◌}
+use Prim.Native.Nat.{ℕ, ◌+◌, ◌^◌, ◌≤◌, ◌<◌}
 use mathlib.Core.Path.{◌≡◌, refl, ap, sym, ◌∙◌}
 use mathlib.Core.List.{List, [], ◌∷◌}
 use native.Mathlib.Numerals.{add-one}
 use native.Mathlib.Omega.{arith}
-use borrow.Author.Tests.{le-leb, le-ltb, leb-true, lt-ltb, ltb-true}
+use borrow.Author.Tests.{le-leb, leb-true, lt-ltb, ltb-true}
 use lib.Dec.{leb, ltb}
 use lib.ListN.{drop, drop_of_length-le, get_or}
-use Rattle.refusal.specs.Out.{Out, ok, bad, ◌>>=◌, need}
-use Rattle.refusal.proofs.OutLaws.{need-bind, need-ok}
+use Rattle.refusal.specs.Out.{Out, ok, ◌>>=◌, need}
+use Rattle.refusal.proofs.OutLaws.{need-bind, need-ok, ok-is}
 use Rattle.directory.specs.Entries.{Entry, Valid, after, check_one, entry}
-use Rattle.directory.specs.Answers.{checked, said_checked}
-use Rattle.directory.specs.declared.Checked.{Checked}
+use Rattle.directory.specs.Answers.{checked}
 use Rattle.directory.specs.Search.{All, shortest, stored}
 use Rattle.directory.proofs.Checks.{one-good, one-sound}
 use Rattle.directory.proofs.Slots.{slot, stored-length}
-use Rattle.acceptance.specs.Accept.{Taken, check_tiles_lem, tile_one}
+use Rattle.acceptance.specs.Accept.{Taken, addressed, check_tiles_lem, tile_one}
 
 -- ---- one entry: its run, the checks of reading, then its place in the tile data
 
-module _ (size lo id run len off : ℕ) where
-  pub tile-empty : run ≡ 0 → bad 12 ≡ tile_one size lo (entry id run len off)
-  unfolding tile_one
-  tile-empty h = sym (rw (le-ltb 0 run (omega arith)))
+pub tile_steps : (size lo : ℕ) (e : Entry) → tile_one size lo e ≡ need (ltb 0 e.run) 12 (checked lo e.id e.run e.len >>= λ next. need (leb (e.off + e.len) size) 17 (ok next))
+unfolding tile_one checked
+tile_steps size lo e = sym (simp need-bind)
 
-  pub tile-is : (run ≡ 0 → ⊥) → (x : Checked) → said_checked x ≡ checked lo id run len
-      → tile_one size lo (entry id run len off) ≡ said_checked x >>= λ next. need (leb (off + len) size) 17 (ok next)
-  unfolding tile_one checked
-  tile-is full x h = rw (h, lt-ltb 0 run (omega arith)) (sym (simp need-bind))
+-- what an entry that passes says of the least id that may follow
+pub tile_next : (size lo : ℕ) (e : Entry) {next : ℕ} → ok next ≡ tile_one size lo e → (lo + e.run ≤ next) × (lo + e.run < 2 ^ 64)
+unfolding tile_one
+tile_next size lo e {next} h =
+    let a = need-ok (ltb 0 e.run) 12 (check_one lo e (need (leb (e.off + e.len) size) 17 (ok (after e)))) next (sym h) in
+    let g = one-sound lo e (need (leb (e.off + e.len) size) 17 (ok (after e))) next a.1 in
+    let b = ok-is (need-ok (leb (e.off + e.len) size) 17 (ok (after e)) next g.1).1 in
+    omega arith
 
 -- ---- entries
 
 tiles_more : {A : Type 0} (size lo : ℕ) (e : Entry) (es : List Entry) (x : Out A) → check_tiles_lem size lo (e ∷ es) x ≡ tile_one size lo e >>= λ next. check_tiles_lem size next es x
 unfolding tile_one
 tiles_more size lo e es x = sym (simp need-bind)
-
--- a turn over entries, where the checks of all of them come to w
-module _ {A : Type 0} (size lo : ℕ) (all : List Entry) (x : Out A) {w : Out A} (i : check_tiles_lem size lo all x ≡ w) where
-  module _ {e : Entry} {es : List Entry} (m : all ≡ e ∷ es) where
-    pub tiles-bad : {k : ℕ} → bad k ≡ tile_one size lo e → bad k ≡ w
-    tiles-bad h = sym (ap (λ l. check_tiles_lem size lo l x) m ∙ tiles_more size lo e es x ∙ rw (← h)) ∙ i
-
-    pub tiles-on : {next : ℕ} → ok next ≡ tile_one size lo e → check_tiles_lem size next es x ≡ w
-    tiles-on h = sym (ap (λ l. check_tiles_lem size lo l x) m ∙ tiles_more size lo e es x ∙ rw (← h)) ∙ i
-
-  pub tiles-done : all ≡ [] → x ≡ w
-  tiles-done m = sym (ap (λ l. check_tiles_lem size lo l x) m) ∙ i
 
 pub tiles-then : {A B : Type 0} (size lo : ℕ) (es : List Entry) (x : Out A) (f : A → Out B) → check_tiles_lem size lo es x >>= f ≡ check_tiles_lem size lo es (x >>= f)
 tiles-then size lo [] x f = refl
@@ -54,11 +44,23 @@ tiles-then size lo (e ∷ es) x f = simp (need-bind, tiles-then size (after e) e
 -- ---- the entries of stores from a slot on: one more, or none
 
 module _ (n : ℕ) (a b c d : List ℕ) (h : n ≤ shortest a b c d) (i : ℕ) where
-  pub slot_next : i < n → drop i (stored n a b c d) ≡ entry (get_or a i 0) (get_or b i 0) (get_or c i 0) (get_or d i 0) ∷ drop (i + 1) (stored n a b c d)
-  slot_next m = rw add-one (slot n a b c d h i m)
+  module _ (m : i < n) where
+    slot_next : drop i (stored n a b c d) ≡ entry (get_or a i 0) (get_or b i 0) (get_or c i 0) (get_or d i 0) ∷ drop (i + 1) (stored n a b c d)
+    slot_next = rw add-one (slot n a b c d h i m)
 
-  pub slots_end : n ≤ i → drop i (stored n a b c d) ≡ []
-  slots_end m = drop_of_length-le (stored n a b c d) {i = i} (rw (stored-length n a b c d h) m)
+    pub tiles_turn : {A : Type 0} (size lo : ℕ) (x : Out A) → check_tiles_lem size lo (drop i (stored n a b c d)) x
+        ≡ tile_one size lo (entry (get_or a i 0) (get_or b i 0) (get_or c i 0) (get_or d i 0)) >>= λ next. check_tiles_lem size next (drop (i + 1) (stored n a b c d)) x
+    tiles_turn size lo x = ap (λ l. check_tiles_lem size lo l x) slot_next ∙ tiles_more size lo _ (drop (i + 1) (stored n a b c d)) x
+
+    pub addressed_turn : addressed (drop i (stored n a b c d)) ≡ get_or b i 0 + addressed (drop (i + 1) (stored n a b c d))
+    addressed_turn = ap addressed slot_next
+
+  module _ (m : n ≤ i) where
+    pub slots_end : drop i (stored n a b c d) ≡ []
+    slots_end = drop_of_length-le (stored n a b c d) {i = i} (rw (stored-length n a b c d h) m)
+
+    pub addressed_end : addressed (drop i (stored n a b c d)) ≡ 0
+    addressed_end = ap addressed slots_end
 
 -- ---- what the checks decide
 

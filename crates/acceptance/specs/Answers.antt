@@ -1,16 +1,14 @@
 -- What `accept` answers, in the words of the definitions. Assumes nothing.
-use Rattle.std.specs.Prelude.{List, length}
-use Rattle.refusal.specs.Out.{Out, ok, bad, ◌>>=◌}
-use Rattle.refusal.specs.Number.{number_of}
+use Rattle.std.specs.Prelude.{List, Result, length}
+use Rattle.refusal.specs.Out.{Out, ok, ◌>>=◌}
+use Rattle.refusal.specs.Said.{said}
+use Rattle.refusal.specs.declared.Refusal.{Refusal}
 use Rattle.directory.specs.Entries.{Entry}
 use Rattle.acceptance.specs.Accept.{addressed}
 use Rattle.acceptance.specs.declared.Counts.{Counts}
-use Rattle.acceptance.specs.declared.Accepted.{Accepted}
-use Rattle.acceptance.specs.declared.Accepted.TheVariants as ac
 
-abbrev pub said_accepted : Accepted → Out Counts
-said_accepted (ac.Counts c) = ok c
-said_accepted (ac.Refused r) = bad (number_of r)
+abbrev pub said_accepted : Result Counts Refusal → Out Counts
+said_accepted = said (λ c. c)
 
 -- what the builder counts
 abbrev pub counts_of : List Entry → Counts

@@ -5,7 +5,9 @@ use mathlib.Core.List.{List}
 use lib.Dec.{leb}
 use lib.ListN.{drop, length, take}
 use lib.Seq.{take-append_seam}
+use Rattle.std.specs.Prelude.{Result, Ok}
 use Rattle.refusal.specs.Out.{Out, ok, bad, ◌>>=◌, afterwards, need}
+use Rattle.refusal.specs.declared.Refusal.{Refusal}
 use Rattle.refusal.proofs.OutLaws.{bind_ok, need-ok, ok-is}
 use Rattle.directory.specs.Entries.{Entry}
 use Rattle.acceptance.specs.Accept.{accepting}
@@ -14,12 +16,10 @@ use Rattle.acceptance.specs.declared.Counts.{Counts}
 use Rattle.writer.specs.Answers.{BuiltFrom, building, fitted, laid, sizes_of}
 use Rattle.writer.specs.Build.{build}
 use Rattle.writer.specs.declared.Sizes.{Sizes}
-use Rattle.writer.specs.declared.Built.TheVariants as bu
 use Rattle.publisher.specs.Answers.{said_published}
 use Rattle.publisher.specs.Plan.{stored_from}
 use Rattle.publisher.specs.Publish.{publishing}
 use Rattle.publisher.specs.Calls.{Parts, Standing, calling, stores_of}
-use Rattle.publisher.specs.declared.Published.{Published}
 use Rattle.publisher.proofs.Admitted.{admitted}
 use Rattle.writer.specs.Stock.{Typed}
 use Rattle.archive.specs.Demand.{Demand3, Publication, Publishable, leaves_of, parts_of, root_of}
@@ -46,7 +46,7 @@ module _ (n : ℕ) (ids runs lens offs : List ℕ) (size : ℕ) (root leaves roo
     pub in_leaves : take sizes.leaves leaves' ≡ (build es).leaves
 
   -- where `build` is done, there are such entries
-  pub built-is : BuiltFrom (building n ids runs lens offs size (length root) (length leaves)) counts_of (bu.Done sizes counts) root leaves root' leaves' → (es : List Entry) × Made es
+  pub built-is : BuiltFrom (building n ids runs lens offs size (length root) (length leaves)) counts_of (Ok (sizes, counts)) root leaves root' leaves' → (es : List Entry) × Made es
   unfolding building
   built-is b =
       let x : Out (List Entry) = building n ids runs lens offs size (length root) (length leaves) in
@@ -83,7 +83,7 @@ call_by (ok n) y old new dest e h = rw (e, h)
 call_by (bad n) y old new dest e h = rw e
 
 -- an answer of `publish`, and what it leaves of the destination, is a call's
-pub called : (x : Parts) (budget : ℕ) (now : Standing) (r : Published) (dest : List ℕ) → said_published r ≡ answering x budget now
+pub called : (x : Parts) (budget : ℕ) (now : Standing) (r : Result ℕ Refusal) (dest : List ℕ) → said_published r ≡ answering x budget now
     → dest ≡ afterwards (answering x budget now) now.dest (λ _. leaving x budget now)
     → calling x budget now ≡ said_published r >>= λ next. ok (standing next dest)
 called x budget now r dest = call_by (answering x budget now) (said_published r) now.dest (leaving x budget now) dest

@@ -5,6 +5,7 @@ use mathlib.Core.List.{List, [], ◌∷◌}
 use mathlib.Core.Logic.{◌⊎◌, inl, inr}
 use native.Mathlib.Omega.{arith}
 use lib.ListN.{length, take}
+use Rattle.std.specs.Prelude.{Ok}
 use Rattle.refusal.specs.Out.{Out, ok, bad, ◌>>=◌}
 use Rattle.refusal.proofs.OutLaws.{ok-is}
 use Rattle.directory.specs.Entries.{Entry}
@@ -17,10 +18,8 @@ use Rattle.writer.specs.Answers.{BuiltFrom, building}
 use Rattle.writer.specs.Build.{build}
 use Rattle.writer.specs.Stock.{Typed}
 use Rattle.writer.specs.declared.Sizes.{Sizes}
-use Rattle.writer.specs.declared.Built.TheVariants as bu
 use Rattle.writer.proofs.Growth.{root-fits}
 use Rattle.publisher.specs.Calls.{AcceptedFor, Parts, Standing, calls, stores_of, total_of}
-use Rattle.publisher.specs.declared.Published.TheVariants as pu
 use Rattle.publisher.specs.declared.Settings.{Settings}
 use Rattle.publisher.proofs.Admitted.{publishes}
 use Rattle.publisher.proofs.Demand.{length-stores}
@@ -44,7 +43,7 @@ row-calls : {x : Parts} {p q : ℕ} {d e : List ℕ} → Row x p d q e → (budg
 row-calls none = ([], refl)
 row-calls {x} {p = p} {d = d} (more {next = n} {dest' = d'} budget c r) =
     let rest = row-calls r in
-    (budget ∷ rest.0, ap (λ (o : Out Standing). o >>= calls x rest.0) (called x budget (standing p d) (pu.Position n) d' c.answer c.bytes) ∙ rest.1)
+    (budget ∷ rest.0, ap (λ (o : Out Standing). o >>= calls x rest.0) (called x budget (standing p d) (Ok n) d' c.answer c.bytes) ∙ rest.1)
 
 -- it ends where it begins, or its first call was not refused
 row_first : {x : Parts} {p q : ℕ} {d e : List ℕ} → Row x p d q e
@@ -116,7 +115,7 @@ module _ (count : ℕ) (ids runs lengths offsets : List ℕ) (typed : Typed ids 
   publication = record { settings = settings; entries = stored count ids runs lengths offsets; metadata = metadata; tiles = tiles }
 
   module _
-      (built : BuiltFrom (building count ids runs lengths offsets (length tiles) (length root) (length leaves)) counts_of (bu.Done sizes counts) root leaves root' leaves') where
+      (built : BuiltFrom (building count ids runs lengths offsets (length tiles) (length root) (length leaves)) counts_of (Ok (sizes, counts)) root leaves root' leaves') where
     from-made : (es : List Entry) × Made count ids runs lengths offsets (length tiles) root leaves root' leaves' sizes counts es
     from-made = built-is count ids runs lengths offsets (length tiles) root leaves root' leaves' sizes counts built
 

@@ -22,10 +22,9 @@ use Rattle.writer.specs.Answers.{BuiltFrom, building}
 use Rattle.writer.specs.Build.{build}
 use Rattle.writer.specs.Stock.{Typed}
 use Rattle.writer.specs.declared.Sizes.{Sizes}
-use Rattle.writer.specs.declared.Built.TheVariants as bu
+use Rattle.std.specs.Prelude.{Ok}
 use Rattle.publisher.specs.Calls.{total_of}
 use Rattle.publisher.specs.Publish.{publishing}
-use Rattle.publisher.specs.declared.Published.TheVariants as pu
 use Rattle.pmtiles.specs.Exports.{BuildTold, found, sought, within}
 use Rattle.pmtiles.specs.Publishes.{counts_given, publishing_given, settings_in_lem, zooms_fit_lem}
 use Rattle.archive.specs.Demand.{Publication, Tile, Whole, asked, by_coord, by_id, id_of, parts_of}
@@ -60,7 +59,7 @@ module _ (n : ℕ) (ids runs lens offs : List ℕ) (size : ℕ) (root root' leav
   building-is = building n ids runs lens offs size (length root) (length leaves)
 
   c-built : BuildTold (within 4 out building-is) 0 root root' leaves leaves' out out'
-      → BuiltFrom building-is counts_of (bu.Done (sizes_told out') (counts_told out')) root leaves root' leaves'
+      → BuiltFrom building-is counts_of (Ok (sizes_told out', counts_told out')) root leaves root' leaves'
   unfolding counts_given
   c-built b =
       let d = done (within 4 out building-is) (of-need (leb 4 (length out)) 15 building-is (omega arith) (of-building n ids runs lens offs size (length root) (length leaves))) b.says in
@@ -81,7 +80,7 @@ module _ (g : Given) (position budget : ℕ) (dest dest' out out' : List ℕ) wh
   publishing-is =
       publishing (settings_in_lem g.settings g.degrees) (length g.root) (length g.metadata) (length g.tiles) (length g.leaves) (length dest) position budget
 
-  c_call : Publishes g position budget 0 dest dest' out out' → Call (parts_given g) position budget dest (pu.Position (get_or out' 0 0)) dest'
+  c_call : Publishes g position budget 0 dest dest' out out' → Call (parts_given g) position budget dest (Ok (get_or out' 0 0)) dest'
   unfolding publishing_given
   c_call c =
       let d = done _ (of-given g.settings g.degrees g.counts out g.root g.metadata g.tiles g.leaves dest position budget) c.says in

@@ -1,4 +1,4 @@
 pub mod Examples
 pub mod Nearest
 pub mod Sizes
-pub mod FromBits
+pub mod Casts

@@ -1,6 +1,6 @@
 -- A count against what a directory may have and against four stores. Assumes nothing.
 use Prim.Native.Nat.{ℕ, ◌≤◌, ◌<◌}
-use mathlib.Core.Path.{◌≡◌, refl, sym, ◌∙◌}
+use mathlib.Core.Path.{◌≡◌, refl, sym}
 use mathlib.Core.List.{List, [], ◌∷◌}
 use mathlib.Core.Option.{none}
 use borrow.Author.Tests.{le-leb, leb-true, lt-leb}
@@ -39,21 +39,6 @@ module _ {A : Type 0} (n : ℕ) (a b c d : List ℕ) (x : Out A) where
   -- the count first, then what comes next
   pub counting-then : counting n a b c d x ≡ counting {A = ℕ} n a b c d (ok 0) >>= λ _. x
   counting-then = sym (simp need-bind)
-
--- the count's own answer, before that of what comes next
-module _ (n : ℕ) (a b c d : List ℕ) {r : Out ℕ} (e : r ≡ counting n a b c d (ok 0)) where
-  pub count-refused : {q : ℕ} (x : Out ℕ) → r ≡ bad q → r ≡ counting n a b c d x
-  count-refused x z = z ∙ sym (counting-then n a b c d x ∙ (rw (← e, z)))
-
-  module _ {y : ℕ} (z : r ≡ ok y) where
-    sound : (n ≤ max_count) × (n ≤ shortest a b c d) × (◌≡◌ {A = Out ℕ} (ok 0) (ok y))
-    sound = counting-sound n a b c d (ok 0) y (sym e ∙ z)
-
-    pub count_fits : (n ≤ length a) × (n ≤ length b) × (n ≤ length c) × (n ≤ length d)
-    count_fits = in-each n a b c d sound.1
-
-    pub count-passed : {o : Out ℕ} (x : Out ℕ) → o ≡ x → o ≡ counting n a b c d x
-    count-passed x p = p ∙ sym (enough n a b c d x sound.0 sound.1)
 
 -- ---- the largest count: 16,777,216 is taken, one more is not
 

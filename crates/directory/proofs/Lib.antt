@@ -1,7 +1,6 @@
 pub mod Counting
 pub mod Checks
-pub mod Plain
-pub mod Offsets
+pub mod Handed
 pub mod Column
 pub mod Round
 pub mod Turns

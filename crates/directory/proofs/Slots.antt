@@ -4,9 +4,10 @@ use mathlib.Core.Path.{◌≡◌, refl, ap, sym, ◌∙◌}
 use mathlib.Core.List.{List, [], ◌∷◌, map}
 use native.Mathlib.Numerals.{add-one}
 use native.Mathlib.Omega.{arith}
-use lib.ListN.{get_or-map, drop, drop_of_length-le, get_or, length, length-map, take}
+use lib.ListN.{get_or-map, drop, get_or, length, length-map, take}
 use lib.Seq.{drop-cons, get_or-take, length-take-le}
-use Rattle.refusal.specs.Out.{Out, ok, bad, ◌>>=◌}
+use Rattle.std.proofs.lemmas.List.{drop_all}
+use Rattle.refusal.specs.Out.{Out, ◌>>=◌}
 use Rattle.refusal.proofs.OutLaws.{bind_assoc, need-bind}
 use Rattle.directory.specs.Entries.{after, Entry, check, entry}
 use Rattle.directory.specs.Search.{shortest, stored}
@@ -51,6 +52,11 @@ module _ (n : ℕ) (a b l o : List ℕ) (h : n ≤ shortest a b l o) where
         rw (← field_at (λ e. e.id) a f.ids refl, ← field_at (λ e. e.run) b f.runs refl, ← field_at (λ e. e.len) l f.lens refl, ← field_at (λ e. e.off) o f.offs refl)
         (drop-cons (stored n a b l o) i (entry 0 0 0 0) (rw stored-length m))
 
+-- the same of a loop's slot
+pub slot_first : (n : ℕ) (a b l o : List ℕ) (i : ℕ) → n ≤ shortest a b l o → i < n
+    → drop i (stored n a b l o) ≡ entry (get_or a i 0) (get_or b i 0) (get_or l i 0) (get_or o i 0) ∷ drop (i + 1) (stored n a b l o)
+slot_first n a b l o i h m = rw add-one (slot n a b l o h i m)
+
 -- ---- checks
 
 -- the checks, and then what comes next
@@ -59,23 +65,5 @@ unfolding checked
 check-all lo [] x = refl
 check-all lo (e ∷ es) x = simp (bind_assoc, need-bind) (rw (check-all (after e) es x))
 
--- the entries before slot i have passed, and the least id that may come is lo; whatever the offsets are
-pub record Passed (n : ℕ) (a b l : List ℕ) (i lo : ℕ) : Type 0 where
-  pub fits : (n ≤ length a) × (n ≤ length b) × (n ≤ length l)
-  pub same : (o : List ℕ) → n ≤ length o → checked_all 0 (stored n a b l o) ≡ checked_all lo (drop i (stored n a b l o))
-
-module _ {n : ℕ} {a b l : List ℕ} {i lo : ℕ} (k : Passed n a b l i lo) where
-  pub pass-done : n ≤ i → (o : List ℕ) → n ≤ length o → ok lo ≡ checked_all 0 (stored n a b l o)
-  pass-done h o r =
-      sym (rw (k.same o r, drop_of_length-le (stored n a b l o) {i = i} (rw (stored-length n a b l o (omega (arith, k.fits))) h)))
-
-  module _ (m : i < n) where
-    more : (o : List ℕ) → n ≤ length o
-        → checked_all 0 (stored n a b l o) ≡ checked lo (get_or a i 0) (get_or b i 0) (get_or l i 0) >>= λ next. checked_all next (drop (i + 1) (stored n a b l o))
-    more o r = rw (k.same o r, slot n a b l o (omega (arith, k.fits)) i m, add-one i)
-
-    pub pass-stop : {x : Out ℕ} {q : ℕ} → x ≡ bad q → x ≡ checked lo (get_or a i 0) (get_or b i 0) (get_or l i 0) → (o : List ℕ) → n ≤ length o → x ≡ checked_all 0 (stored n a b l o)
-    pass-stop z e o r = z ∙ sym (rw (more o r, ← e, z))
-
-    pub pass-turn : {next : ℕ} → ok next ≡ checked lo (get_or a i 0) (get_or b i 0) (get_or l i 0) → Passed n a b l (i + 1) next
-    pass-turn e = record { fits = k.fits; same = λ o r. rw (more o r, ← e) }
+-- what finds that the entries in the slots have passed, or which one has not
+pub ruleset passing = (slot_first, stored-length, drop_all)

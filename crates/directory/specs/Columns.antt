@@ -1,5 +1,5 @@
 -- A directory's bytes: five columns of varints. Assumes nothing.
-use Rattle.std.specs.Prelude.{ℕ, zero, suc, ◌+◌, ◌^◌, Bool, true, false, List, [], ◌∷◌, leb, ltb, get_or, drop}
+use Rattle.std.specs.Prelude.{ℕ, zero, suc, ◌+◌, ◌^◌, Bool, true, List, [], ◌∷◌, leb, ltb, get_or, drop}
 use Rattle.std.proofs.Math.Option.{Option, none, some}
 use Rattle.refusal.specs.Out.{Out, ok, bad, ◌>>=◌, need}
 use Rattle.varint.specs.Varint.{Width, wide, narrow, read, read_at}
@@ -34,11 +34,6 @@ abbrev pub offset_of : Option ℕ → ℕ → Out ℕ
 offset_of e (suc c) = ok c
 offset_of none zero = bad 10
 offset_of (some x) zero = need (ltb x (2 ^ 64)) 11 (ok x)
-
--- where an entry ends whose offset and length are given, or none if there is no entry before
-abbrev pub end_of : Bool → ℕ → ℕ → Option ℕ
-end_of true o l = none
-end_of false o l = some (o + l)
 
 -- an offset: where the entry before ends, and the lengths that are left
 abbrev pub offset_step : Option ℕ × List ℕ → ℕ → Out (ℕ × (Option ℕ × List ℕ))

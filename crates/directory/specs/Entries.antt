@@ -22,7 +22,8 @@ abbrev pub after : Entry → ℕ
 after e = e.id + max 1 e.run
 
 -- an entry's checks, where `lo` is the least id that may come; then what comes next.
--- 12: no bytes. 13: the id, or the last one covered, is above the largest. 14: not above the entry before, or covered by it.
+-- 12: no bytes. 13: the id, or the last one covered, is above the largest.
+-- 14: not above the entry before, or covered by it.
 abbrev pub check_one : {A : Type 0} → ℕ → Entry → Out A → Out A
 check_one lo e x =
     need (ltb 0 e.len) 12 (need (leb e.id max_id) 13 (need (leb (e.id + e.run) (suc max_id)) 13 (need (leb lo e.id) 14 x)))

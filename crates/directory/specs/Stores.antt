@@ -1,25 +1,22 @@
 -- Four stores, into which a directory is read. Assumes nothing.
-use Rattle.std.specs.Prelude.{ℕ, ◌≤◌, ◌≡◌, List, [], ◌∷◌, drop}
+use Rattle.std.specs.Prelude.{ℕ, ◌≤◌, ◌≡◌, List, [], ◌∷◌, drop, Result, Ok, Err}
 use Rattle.std.proofs.Math.Option.{none, some}
 use Rattle.refusal.specs.Out.{Out, ok, bad, ◌>>=◌}
 use Rattle.refusal.specs.Number.{number_of}
-use Rattle.varint.specs.Varint.{Width, wide, narrow}
+use Rattle.refusal.specs.declared.Refusal.{Refusal}
+use Rattle.varint.specs.Varint.{narrow, wide}
 use Rattle.directory.specs.Entries.{Entry, check}
 use Rattle.directory.specs.Columns.{column_at, entries, id_step, offset_step, plain_step}
 use Rattle.directory.specs.Decode.{decode}
 use Rattle.directory.specs.Search.{shortest, stored}
 use Rattle.directory.specs.Answers.{checked, counted, kept, said_read}
-use Rattle.directory.specs.declared.DirectoryRead.{DirectoryRead}
-use Rattle.directory.specs.declared.DirectoryRead.TheVariants as dr
-use Rattle.directory.specs.declared.columns.Column.{Column}
-use Rattle.directory.specs.declared.columns.Column.TheVariants as co
 
 -- the directory that the bytes hold, where the shortest store has room for it
 abbrev pub reading : List ℕ → List ℕ → List ℕ → List ℕ → List ℕ → Out (List Entry × ℕ)
 reading bytes ids runs lens offs = decode (some (shortest ids runs lens offs)) bytes
 
 -- the answer to a reading, and each store before it and after it
-pub record ReadInto (D : Out (List Entry × ℕ)) (r : DirectoryRead) (ids ids' runs runs' lens lens' offs offs' : List ℕ) : Type 0 where
+pub record ReadInto (D : Out (List Entry × ℕ)) (r : Result (ℕ × ℕ) Refusal) (ids ids' runs runs' lens lens' offs offs' : List ℕ) : Type 0 where
   pub answer : said_read r ≡ counted D
   pub ids-kept : ids' ≡ kept D (λ e. e.id) ids
   pub runs-kept : runs' ≡ kept D (λ e. e.run) runs
@@ -27,11 +24,6 @@ pub record ReadInto (D : Out (List Entry × ℕ)) (r : DirectoryRead) (ids ids' 
   pub offs-kept : offs' ≡ kept D (λ e. e.off) offs
 
 -- ---- what the parts do
-
--- the column that begins where another ended
-abbrev pub column_after : {S : Type 0} → Column → Width → (S → ℕ → Out (ℕ × S)) → ℕ → S → List ℕ → Out (List ℕ × ℕ)
-column_after (co.Done c) w step n s l = column_at w step n s l c.at
-column_after (co.Refused r) w step n s l = bad (number_of r)
 
 -- n entries whose columns begin at a place of a list, checked: the entries, and the place after them
 unfoldable pub entries_at : ℕ → List ℕ → ℕ → Out (List Entry × ℕ)
@@ -41,28 +33,19 @@ entries_at n l at =
     column_at narrow plain_step n tt l p₂ >>= λ (lens, p₃).
     column_at wide offset_step n (none, lens) l p₃ >>= λ (offs, p₄). check 0 (entries ids runs lens offs) (ok (entries ids runs lens offs, p₄))
 
--- the entries in the first n slots and the place after their columns, checked if the columns were read
-abbrev pub check_after : Column → ℕ → List ℕ → List ℕ → List ℕ → List ℕ → Out (List Entry × ℕ)
-check_after (co.Done c) n ids runs lens offs = check 0 (stored n ids runs lens offs) (ok (stored n ids runs lens offs, c.at))
-check_after (co.Refused r) n ids runs lens offs = bad (number_of r)
-
 -- entry by entry; the least id that may follow them all
 abbrev pub checked_all : ℕ → List Entry → Out ℕ
 checked_all lo [] = ok lo
 checked_all lo (e ∷ es) = checked lo e.id e.run e.len >>= λ next. checked_all next es
 
--- what is told of the n entries that a reading gives, or of its refusal
-abbrev pub Told : DirectoryRead → ℕ → List Entry → Out (List Entry × ℕ) → Type 0
-Told (dr.Entries m u) n es D = (m ≡ n) × (D ≡ ok (es, u))
-Told (dr.Refused r) n es D = D ≡ bad (number_of r)
-
--- a success: the first n slots are the directory, and the others as they were; of a refusal the stores are not yet cleared
-abbrev pub Filling : DirectoryRead → Out (List Entry × ℕ) → (ids ids' runs runs' lens lens' offs offs' : List ℕ) → Type 0
-Filling (dr.Entries n u) D ids ids' runs runs' lens lens' offs offs' =
+-- a success: the first n slots are the directory, and the others as they were;
+-- of a refusal the stores are not yet cleared
+abbrev pub Filling : Result (ℕ × ℕ) Refusal → Out (List Entry × ℕ) → (ids ids' runs runs' lens lens' offs offs' : List ℕ) → Type 0
+Filling (Ok (n, u)) D ids ids' runs runs' lens lens' offs offs' =
     (n ≤ shortest ids runs lens offs)
     × (D ≡ ok (stored n ids' runs' lens' offs', u))
     × (drop n ids' ≡ drop n ids)
     × (drop n runs' ≡ drop n runs)
     × (drop n lens' ≡ drop n lens)
     × (drop n offs' ≡ drop n offs)
-Filling (dr.Refused r) D ids ids' runs runs' lens lens' offs offs' = D ≡ bad (number_of r)
+Filling (Err r) D ids ids' runs runs' lens lens' offs offs' = D ≡ bad (number_of r)

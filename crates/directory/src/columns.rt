@@ -1,114 +1,65 @@
-// The columns of a directory, each read into a store.
-ghost use Rattle.std.specs.Prelude.{◌≡◌, ◌≤◌, drop, length, take};
+// The columns of a directory, each read into a store that is as long as the directory.
+ghost use Rattle.std.specs.Prelude.{◌≡◌, length};
 ghost use Rattle.std.proofs.Math.Option.{none};
 ghost use Rattle.varint.specs.Varint.{wide, narrow};
 ghost use Rattle.directory.specs.Columns.{column_at, id_step, offset_step, plain_step};
 ghost use Rattle.directory.specs.Answers.{said_column};
-ghost use Rattle.directory.specs.Stores.{column_after};
 
+use crate::Extent;
 use crate::entries::offset_of;
-use crate::{Offset, OffsetAnswer};
 use refusal::Refusal;
-use varint::{Cursor, ReadU32, ReadU64};
-
-// Where a column ends. The next one begins there, or is refused as this one was.
-#[derive(Clone, Copy)]
-pub(crate) enum Column {
-    Done(Cursor),
-    Refused(Refusal),
-}
+use varint::Cursor;
 
 // Ids: differences, summed from 0.
-pub(crate) fn read_ids(bytes: &[u8], from: Cursor, n: usize, ids: &mut [u64]) -> Column
-    requires { n ≤ length ids.old }
-    ensures { (said_column result n ids.new ≡ column_at wide id_step n 0 bytes.now from.at)
-        × (drop n ids.new ≡ drop n ids.old) }
+#[tactic(auto, using(crate::proofs::Turns::turn))]
+pub(crate) fn read_ids(bytes: &[u8], from: Cursor, ids: &mut [u64]) -> Result<Cursor, Refusal>
+    ensures { said_column result ids.new ≡ column_at wide id_step (length ids.old) 0 bytes.now from.at }
 {
-    let mut c = from;
-    let mut prev: u64 = 0;
-    let mut i: usize = 0;
-    while i < n {
-        match c.read_u64(bytes) {
-            ReadU64::Number(d, next) => {
-                if 18446744073709551615 - prev < d {
-                    return Column::Refused(Refusal::SumTooLarge);
-                }
-                prev += d;
-                ids[i] = prev;
-                c = next;
-                i += 1;
-            }
-            ReadU64::Refused(r) => {
-                return Column::Refused(r);
-            }
-        }
+    let mut at = from;
+    let mut id: u64 = 0;
+    for slot in ids.iter_mut() {
+        let (d, next) = at.read_u64(bytes)?;
+        id = id.checked_add(d).ok_or(Refusal::SumTooLarge)?;
+        *slot = id;
+        at = next;
     }
-    Column::Done(c)
+    Ok(at)
 }
 
 // Runs, or lengths: numbers as they stand.
-pub(crate) fn read_plain(bytes: &[u8], from: Column, n: usize, out: &mut [u32]) -> Column
-    requires { n ≤ length out.old }
-    ensures { (said_column result n out.new ≡ column_after from narrow plain_step n tt bytes.now)
-        × (drop n out.new ≡ drop n out.old) }
+#[tactic(auto, using(crate::proofs::Turns::turn))]
+pub(crate) fn read_plain(bytes: &[u8], from: Cursor, out: &mut [u32]) -> Result<Cursor, Refusal>
+    ensures { said_column result out.new ≡ column_at narrow plain_step (length out.old) tt bytes.now from.at }
 {
-    let Column::Done(start) = from else {
-        return from;
-    };
-    let mut c = start;
-    let mut i: usize = 0;
-    while i < n {
-        match c.read_u32(bytes) {
-            ReadU32::Number(x, next) => {
-                out[i] = x;
-                c = next;
-                i += 1;
-            }
-            ReadU32::Refused(r) => {
-                return Column::Refused(r);
-            }
-        }
+    let mut at = from;
+    for slot in out.iter_mut() {
+        let (x, next) = at.read_u32(bytes)?;
+        *slot = x;
+        at = next;
     }
-    Column::Done(c)
+    Ok(at)
 }
 
 // Offsets: codes, beside the lengths that stand in their store already.
+#[tactic(auto, using(crate::proofs::Turns::offset_turn))]
 pub(crate) fn read_offsets(
     bytes: &[u8],
-    from: Column,
-    n: usize,
+    from: Cursor,
     lengths: &[u32],
     offsets: &mut [u64],
-) -> Column
-    requires { (n ≤ length lengths.now) × (n ≤ length offsets.old) }
-    ensures { (said_column result n offsets.new ≡ column_after from wide offset_step n (none, take n lengths.now) bytes.now)
-        × (drop n offsets.new ≡ drop n offsets.old) }
+) -> Result<Cursor, Refusal>
+    requires { length lengths.now ≡ length offsets.old }
+    ensures { said_column result offsets.new ≡ column_at wide offset_step (length offsets.old) (none, lengths.now) bytes.now from.at }
 {
-    let Column::Done(start) = from else {
-        return from;
-    };
-    let mut c = start;
-    let mut prev: u64 = 0;
-    let mut len: u32 = 0;
-    let mut i: usize = 0;
-    while i < n {
-        match c.read_u64(bytes) {
-            ReadU64::Number(code, next) => match offset_of(i == 0, Offset(prev), len, code) {
-                OffsetAnswer::At(o) => {
-                    prev = o.0;
-                    offsets[i] = o.0;
-                    len = lengths[i];
-                    c = next;
-                    i += 1;
-                }
-                OffsetAnswer::Refused(r) => {
-                    return Column::Refused(r);
-                }
-            },
-            ReadU64::Refused(r) => {
-                return Column::Refused(r);
-            }
-        }
+    let mut at = from;
+    let mut before: Option<Extent> = None;
+    for (i, slot) in offsets.iter_mut().enumerate() {
+        let (code, next) = at.read_u64(bytes)?;
+        let offset = offset_of(before, code)?;
+        *slot = offset.0;
+        let length = lengths[i];
+        before = Some(Extent { offset, length });
+        at = next;
     }
-    Column::Done(c)
+    Ok(at)
 }

@@ -1,73 +1,70 @@
 // The checks that an entry must pass, and what an offset's code stands for.
 ghost use Rattle.std.specs.Prelude.{◌≡◌};
-ghost use Rattle.directory.specs.Columns.{end_of, offset_of};
-ghost use Rattle.directory.specs.Answers.{checked, new_entry, said_checked, said_entry, said_offset};
+ghost use Rattle.directory.specs.Columns.{offset_of};
+ghost use Rattle.directory.specs.Answers.{checked, end_after, new_entry, said_checked, said_entry, said_offset};
 
-use crate::{Checked, DirEntry, EntryAnswer, Offset, OffsetAnswer};
+use crate::{DirEntry, Extent, Offset, Row};
 use refusal::Refusal;
-use tile::{IdAnswer, TileId};
+use tile::TileId;
 
 // A number of 32 bits as one of 64.
+// Stays: wide is a public function (docs/PROMISES.md), which may not go; it is `u64::from`.
 pub fn wide(x: u32) -> u64
     ensures { result ≡ x }
 {
-    x as u64
+    u64::from(x)
 }
 
 impl DirEntry {
     // An entry whose id was a plain number until now.
-    pub fn new(id: u64, run_length: u32, length: u32, offset: Offset) -> EntryAnswer
+    // Stays: its parameters are the struct's fields, one by one, as the clause `new_entry` has them.
+    #[tactic(auto, unfolding(crate::specs::Answers::new_entry, tile::specs::Answers::new_id))]
+    pub fn new(id: u64, run_length: u32, length: u32, offset: Offset) -> Result<DirEntry, Refusal>
         ensures { said_entry result ≡ new_entry id run_length length offset.0 }
     {
-        match TileId::new(id) {
-            IdAnswer::Id(tile_id) => EntryAnswer::Entry(DirEntry {
-                tile_id,
-                run_length,
-                length,
-                offset,
-            }),
-            IdAnswer::Refused(_) => EntryAnswer::Refused(Refusal::EntryIdTooLarge),
-        }
+        let tile_id = TileId::new(id).map_err(|_| Refusal::EntryIdTooLarge)?;
+        Ok(DirEntry {
+            tile_id,
+            run_length,
+            length,
+            offset,
+        })
     }
 }
 
-// An entry against the least id that may come. Ids are plain numbers here: that one is a tile's is what is checked.
-pub fn check_entry(lo: u64, id: u64, run: u32, length: u32) -> Checked
-    ensures { said_checked result ≡ checked lo id run length }
+// An entry against the least id that may come; then the least that may follow it.
+#[tactic(auto, unfolding(crate::specs::Answers::checked))]
+pub fn check_entry(lo: u64, row: Row) -> Result<u64, Refusal>
+    ensures { said_checked result ≡ checked lo row.id row.run_length row.length }
 {
-    if length == 0 {
-        return Checked::Refused(Refusal::EmptyEntry);
+    if row.length == 0 {
+        return Err(Refusal::EmptyEntry);
     }
-    if TileId::MAX_TILE_ID < id {
-        return Checked::Refused(Refusal::EntryIdTooLarge);
+    if TileId::MAX_TILE_ID < row.id {
+        return Err(Refusal::EntryIdTooLarge);
     }
-    let end = id + wide(run);
+    let end = row.id + u64::from(row.run_length);
     if TileId::MAX_TILE_ID + 1 < end {
-        return Checked::Refused(Refusal::EntryIdTooLarge);
+        return Err(Refusal::EntryIdTooLarge);
     }
-    if id < lo {
-        return Checked::Refused(Refusal::EntriesOutOfOrder);
+    if row.id < lo {
+        return Err(Refusal::EntriesOutOfOrder);
     }
-    if run == 0 {
-        return Checked::Next(id + 1);
-    }
-    Checked::Next(end)
+    Ok(end.max(row.id + 1))
 }
 
 // Code 0 is where the entry before ends; any other is the offset plus 1.
-pub fn offset_of(first: bool, offset: Offset, length: u32, code: u64) -> OffsetAnswer
-    ensures { said_offset result ≡ offset_of (end_of first offset.0 length) code }
+pub fn offset_of(before: Option<Extent>, code: u64) -> Result<Offset, Refusal>
+    ensures { said_offset result ≡ offset_of (end_after before) code }
 {
     if 0 < code {
-        return OffsetAnswer::At(Offset(code - 1));
+        return Ok(Offset(code - 1));
     }
-    if first {
-        return OffsetAnswer::Refused(Refusal::InvalidEntry);
-    }
-    let start = offset.0;
-    let more = wide(length);
-    if 18446744073709551615 - start < more {
-        return OffsetAnswer::Refused(Refusal::SumTooLarge);
-    }
-    OffsetAnswer::At(Offset(start + more))
+    let last = before.ok_or(Refusal::InvalidEntry)?;
+    let end = last
+        .offset
+        .0
+        .checked_add(u64::from(last.length))
+        .ok_or(Refusal::SumTooLarge)?;
+    Ok(Offset(end))
 }

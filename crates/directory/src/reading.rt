@@ -1,109 +1,109 @@
 // A directory's bytes, read into four stores.
-ghost use Rattle.std.specs.Prelude.{List, ℕ, ◌≤◌, length};
-ghost use Rattle.directory.specs.Search.{shortest, stored};
-ghost use Rattle.directory.specs.Stores.{Filling, ReadInto, Told, check_after, entries_at, reading};
+ghost use Rattle.std.specs.Prelude.{◌≡◌, length};
+ghost use Rattle.directory.specs.Columns.{entries};
+ghost use Rattle.refusal.specs.Said.{said};
+ghost use Rattle.directory.specs.Stores.{Filling, ReadInto, entries_at, reading};
 
-use crate::columns::{Column, read_ids, read_offsets, read_plain};
-use crate::stores::{check_entries, least_of, zero_u32, zero_u64};
-use crate::{Checked, DirectoryRead, MAX_ENTRIES};
+use crate::Stores;
+use crate::checking::{check_count, check_entries};
+use crate::columns::{read_ids, read_offsets, read_plain};
 use refusal::Refusal;
-use varint::{Cursor, ReadU64};
+use varint::Cursor;
 
-// The entries that were read, checked, and what is told of them.
-fn check_read(end: Column, n: usize, ids: &[u64], runs: &[u32], lengths: &[u32]) -> DirectoryRead
-    requires { (n ≤ length ids.now) × (n ≤ length runs.now) × (n ≤ length lengths.now) }
-    ensures { (offs : List ℕ) → n ≤ length offs
-        → Told result n (stored n ids.now runs.now lengths.now offs)
-        (check_after end n ids.now runs.now lengths.now offs) }
+// The four stores as one, for the checks.
+fn lent<'a>(
+    count: usize,
+    ids: &'a [u64],
+    runs: &'a [u32],
+    lengths: &'a [u32],
+    offsets: &'a [u64],
+) -> Stores<'a>
+    ensures { (result.count ≡ count)
+        × (result.ids.now ≡ ids.now)
+        × (result.runs.now ≡ runs.now)
+        × (result.lengths.now ≡ lengths.now)
+        × (result.offsets.now ≡ offsets.now) }
 {
-    match end {
-        Column::Done(c) => match check_entries(n, ids, runs, lengths) {
-            Checked::Next(_) => {
-                return DirectoryRead::Entries(n, c.at);
-            }
-            Checked::Refused(r) => {
-                return DirectoryRead::Refused(r);
-            }
-        },
-        Column::Refused(r) => {
-            return DirectoryRead::Refused(r);
-        }
+    Stores {
+        count,
+        ids,
+        runs,
+        lengths,
+        offsets,
     }
 }
 
-// The columns of n entries, and then the checks. Where this refuses, the stores hold what it had read.
+// The columns of a directory, and then the checks, where each store has a slot for every entry and no other.
+#[tactic(auto, using(crate::proofs::Places::entered), unfolding(crate::specs::Stores::entries_at))]
 fn read_entries(
     bytes: &[u8],
     from: Cursor,
-    n: usize,
     ids: &mut [u64],
     runs: &mut [u32],
     lengths: &mut [u32],
     offsets: &mut [u64],
-) -> DirectoryRead
-    requires { n ≤ shortest ids.old runs.old lengths.old offsets.old }
-    ensures { Filling result (entries_at n bytes.now from.at)
-        ids.old ids.new runs.old runs.new
-        lengths.old lengths.new offsets.old offsets.new }
+) -> Result<Cursor, Refusal>
+    requires { (length runs.old ≡ length ids.old) × (length lengths.old ≡ length ids.old) × (length offsets.old ≡ length ids.old) }
+    ensures { said (λ c. (entries ids.new runs.new lengths.new offsets.new, c.at)) result ≡ entries_at (length ids.old) bytes.now from.at }
 {
-    let mut end = read_ids(bytes, from, n, ids);
-    end = read_plain(bytes, end, n, runs);
-    end = read_plain(bytes, end, n, lengths);
-    end = read_offsets(bytes, end, n, lengths, offsets);
-    check_read(end, n, ids, runs, lengths)
+    let runs_at = read_ids(bytes, from, ids)?;
+    let lengths_at = read_plain(bytes, runs_at, runs)?;
+    let offsets_at = read_plain(bytes, lengths_at, lengths)?;
+    let end = read_offsets(bytes, offsets_at, lengths, offsets)?;
+    check_entries(&lent(ids.len(), ids, runs, lengths, offsets))?;
+    Ok(end)
 }
 
 // The stores are filled, or a refusal is told; then they are still to be cleared.
+#[tactic(auto, using(crate::proofs::Places::decoded))]
 fn fill(
     bytes: &[u8],
     ids: &mut [u64],
     runs: &mut [u32],
     lengths: &mut [u32],
     offsets: &mut [u64],
-) -> DirectoryRead
+) -> Result<(usize, usize), Refusal>
     ensures { Filling result
         (reading bytes.now ids.old runs.old lengths.old offsets.old)
         ids.old ids.new runs.old runs.new
         lengths.old lengths.new offsets.old offsets.new }
 {
     let start = Cursor { at: 0 };
-    match start.read_u64(bytes) {
-        ReadU64::Number(count, from) => {
-            let n = count as usize;
-            if MAX_ENTRIES < n {
-                return DirectoryRead::Refused(Refusal::TooManyEntries);
-            }
-            if least_of(ids.len(), runs.len(), lengths.len(), offsets.len()) < n {
-                return DirectoryRead::Refused(Refusal::RoomTooShort);
-            }
-            return read_entries(bytes, from, n, ids, runs, lengths, offsets);
-        }
-        ReadU64::Refused(r) => {
-            return DirectoryRead::Refused(r);
-        }
-    }
+    let (n, from) = start.read_u64(bytes)?;
+    let count = n as usize;
+    check_count(&lent(count, ids, runs, lengths, offsets))?;
+    let end = read_entries(
+        bytes,
+        from,
+        &mut ids[..count],
+        &mut runs[..count],
+        &mut lengths[..count],
+        &mut offsets[..count],
+    )?;
+    Ok((count, end.at))
 }
 
 // A refusal leaves every slot of all four stores zero.
+// Stays: four slices, here and above: in a struct, clauses would reach what they hold only through references.
+#[tactic(auto, using(crate::proofs::Kept::as_read))]
 pub fn read(
     bytes: &[u8],
     ids: &mut [u64],
     runs: &mut [u32],
     lengths: &mut [u32],
     offsets: &mut [u64],
-) -> DirectoryRead
+) -> Result<(usize, usize), Refusal>
     ensures { ReadInto
         (reading bytes.now ids.old runs.old lengths.old offsets.old) result
         ids.old ids.new runs.old runs.new
         lengths.old lengths.new offsets.old offsets.new }
 {
     let filled = fill(bytes, ids, runs, lengths, offsets);
-    let DirectoryRead::Refused(_) = filled else {
-        return filled;
-    };
-    zero_u64(ids);
-    zero_u32(runs);
-    zero_u32(lengths);
-    zero_u64(offsets);
+    if filled.is_err() {
+        ids.fill(0);
+        runs.fill(0);
+        lengths.fill(0);
+        offsets.fill(0);
+    }
     filled
 }

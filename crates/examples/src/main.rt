@@ -3,7 +3,7 @@
 // stdout, written by hand from the format's rules.
 #![tactic(auto)]
 
-ghost use Rattle.std.specs.Prelude.{◌≤◌, ◌<◌, length, IfOk};
+ghost use Rattle.std.specs.Prelude.{◌<◌, length, IfSome};
 
 use std::io::{self, Read};
 
@@ -17,63 +17,49 @@ mod tiles;
 mod varints;
 mod writing;
 
-fn size(low: u8, high: u8) -> usize
-    ensures { result < 65536 }
-{
-    low as usize + 256 * (high as usize)
+// The examples are at most so many bytes.
+const MOST: u64 = 65536;
+
+// An example: its kind, its name, its numbers and its bytes.
+#[derive(Clone, Copy)]
+struct Example<'a> {
+    kind: u8,
+    name: &'a [u8],
+    numbers: &'a [u8],
+    bytes: &'a [u8],
 }
 
-// The example at a place: its kind; the sizes of its name, numbers and bytes, lowest byte first; and these three. Answers the
-// place behind it.
-fn run_one(rt: &impl Print, list: &[u8], at: usize) -> io::Result<usize>
-    requires { at < length list.now }
-    ensures { IfOk result (λ next. (at < next) × (next ≤ length list.now)) }
+// The example that a list begins with, and the list behind it: its kind; the sizes of its name, numbers and bytes, lowest byte
+// first; and these three.
+fn first(list: &[u8]) -> Option<(Example<'_>, &[u8])>
+    ensures { IfSome result (λ r. length r.1.now < length list.now) }
 {
-    let rest = list.len() - at;
-    if rest < 7 {
-        return Ok(list.len());
-    }
-    let name = size(list[at + 1], list[at + 2]);
-    let numbers = size(list[at + 3], list[at + 4]);
-    let bytes = size(list[at + 5], list[at + 6]);
-    if rest - 7 < name + numbers + bytes {
-        return Ok(list.len());
-    }
-    let a = at + 7;
-    let b = a + name;
-    let c = b + numbers;
-    let d = c + bytes;
-    print::text(rt, &list[a..b])?;
-    answers::answer(rt, list[at], &list[b..c], &list[c..d])?;
-    Ok(d)
+    let (head, rest) = list.split_first_chunk::<7>()?;
+    let [kind, a, b, c, d, e, f] = *head;
+    let (name, rest) = rest.split_at_checked(usize::from(u16::from_le_bytes([a, b])))?;
+    let (numbers, rest) = rest.split_at_checked(usize::from(u16::from_le_bytes([c, d])))?;
+    let (bytes, rest) = rest.split_at_checked(usize::from(u16::from_le_bytes([e, f])))?;
+    let example = Example {
+        kind,
+        name,
+        numbers,
+        bytes,
+    };
+    Some((example, rest))
 }
 
 fn run(rt: &impl Print, list: &[u8]) -> io::Result<()> {
-    let mut at: usize = 0;
-    while at < list.len() {
-        at = run_one(rt, list, at)?;
+    let mut list = list;
+    while let Some((example, rest)) = first(list) {
+        rt.write_all(example.name)?;
+        answers::answer(rt, example.kind, example.numbers, example.bytes)?;
+        list = rest;
     }
     Ok(())
 }
 
-// Reads until the buffer is full or the input ends, and answers how many bytes of it are read.
-fn read_full(rt: &impl Input, buffer: &mut [u8]) -> io::Result<usize>
-    ensures { IfOk result (λ n. n ≤ length buffer.new) }
-{
-    let mut input = rt.reader();
-    let mut done: usize = 0;
-    while done < buffer.len() {
-        let n = input.read(&mut buffer[done..])?;
-        if n == 0 {
-            break;
-        }
-        done += n;
-    }
-    Ok(done)
-}
-
 fn main(rt: HostRuntime) -> io::Result<()> {
-    let mut list = [0u8; 65536];
-    let n = read_full(&rt, &mut list)?;
-    run(&rt, &list[..n])
+    let mut list = Vec::new(rt.alloc());
+    rt.reader().take(MOST).read_to_end(&mut list)?;
+    run(&rt, &list)
 }

@@ -3,4 +3,3 @@ pub mod Only
 pub mod Examples
 pub mod Twos
 pub mod LittleEndian
-pub mod Stores

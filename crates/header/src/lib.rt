@@ -1,15 +1,13 @@
 // The header of an archive: its first 127 bytes, read and written.
 #![tactic(auto)]
 
-ghost use Rattle.std.specs.Prelude.{◌++◌, ◌≡◌, drop, length};
+ghost use Rattle.std.specs.Prelude.{◌++◌, ◌≡◌, ◌≤◌, ◌↔◌, IfErr, IsOk, drop, length};
 ghost use Rattle.refusal.specs.Out.{afterwards};
 ghost use Rattle.header.specs.Answers.{said_read, said_written};
 ghost use Rattle.header.specs.Header.{default_header, header_bytes, read_header, write_header};
 
 use refusal::Refusal;
 
-mod bytes;
-mod coordinates;
 mod read;
 mod write;
 
@@ -25,7 +23,7 @@ pub const MAX_COMPRESSION: u8 = 4;
 pub const MAX_TILE_TYPE: u8 = 6;
 
 // Bounds and centre, in degrees.
-#[derive(Clone, Copy)]
+#[derive(Clone, Copy, Debug, PartialEq)]
 pub struct Degrees {
     pub min_longitude: f64,
     pub min_latitude: f64,
@@ -35,8 +33,9 @@ pub struct Degrees {
     pub center_latitude: f64,
 }
 
-// A count of 0 is an unknown one. The codes are numbers, so that writing can refuse a wrong one.
-#[derive(Clone, Copy)]
+// A count of 0 is an unknown one.
+// Stays: the codes are numbers, since writing must be able to refuse a wrong one (`write_header`), and C passes numbers.
+#[derive(Clone, Copy, Debug, PartialEq)]
 pub struct Header {
     pub version: u8,
     pub root_offset: u64,
@@ -60,20 +59,9 @@ pub struct Header {
     pub center_zoom: u8,
 }
 
-#[derive(Clone, Copy)]
-pub enum HeaderRead {
-    Header(Header),
-    Refused(Refusal),
-}
-
-#[derive(Clone, Copy)]
-pub enum HeaderWritten {
-    Done,
-    Refused(Refusal),
-}
-
 impl Header {
-    // The header of an archive that is still to be filled: the whole world, at zooms 0 to 22. The codes are held as given.
+    // The header of an archive that is still to be filled: the whole world, at zooms 0 to 22. The codes are held as
+    // given.
     pub fn new(tile_compression: u8, tile_type: u8) -> Header
         ensures { result ≡ default_header tile_compression tile_type }
     {
@@ -109,39 +97,51 @@ impl Header {
     }
 
     // The header at the start of an archive. The version is not checked, and what follows the 127 bytes does not count.
-    pub fn try_from_bytes(bytes: &[u8]) -> HeaderRead
+    #[tactic(auto, unfolding(crate::specs::Header::read_header))]
+    pub fn try_from_bytes(bytes: &[u8]) -> Result<Header, Refusal>
         ensures { said_read result ≡ read_header bytes.now }
     {
         if bytes.len() < 7 {
-            return HeaderRead::Refused(Refusal::InvalidHeader);
+            return Err(Refusal::InvalidHeader);
         }
-        if read::starts_with(bytes, b"PMTiles") {
+        if bytes.starts_with(b"PMTiles") {
             read::read_fields(bytes)
-        } else if read::starts_with(bytes, b"PM") {
-            HeaderRead::Refused(Refusal::UnsupportedPmTilesVersion)
+        } else if bytes.starts_with(b"PM") {
+            Err(Refusal::UnsupportedPmTilesVersion)
         } else {
-            HeaderRead::Refused(Refusal::InvalidMagicNumber)
+            Err(Refusal::InvalidMagicNumber)
         }
     }
 
     // The header into the first 127 bytes of an output. All fields go as they are held, the version too.
-    pub fn write_to(self, out: &mut [u8]) -> HeaderWritten
+    #[tactic(auto, unfolding(crate::specs::Header::write_header))]
+    pub fn write_to(self, out: &mut [u8]) -> Result<(), Refusal>
         ensures answer { said_written result ≡ write_header self (length out.old) }
         ensures bytes { out.new ≡ afterwards (write_header self (length out.old)) out.old (λ _. header_bytes self ++ drop 127 out.old) }
     {
-        if self.internal_compression > MAX_COMPRESSION {
-            return HeaderWritten::Refused(Refusal::InvalidCompression);
-        }
-        if self.tile_compression > MAX_COMPRESSION {
-            return HeaderWritten::Refused(Refusal::InvalidCompression);
-        }
-        if self.tile_type > MAX_TILE_TYPE {
-            return HeaderWritten::Refused(Refusal::InvalidTileType);
-        }
+        known(
+            self.internal_compression,
+            MAX_COMPRESSION,
+            Refusal::InvalidCompression,
+        )?;
+        known(
+            self.tile_compression,
+            MAX_COMPRESSION,
+            Refusal::InvalidCompression,
+        )?;
+        known(self.tile_type, MAX_TILE_TYPE, Refusal::InvalidTileType)?;
         if out.len() < HEADER_SIZE {
-            return HeaderWritten::Refused(Refusal::RoomTooShort);
+            return Err(Refusal::RoomTooShort);
         }
         write::put_header(out, self);
-        HeaderWritten::Done
+        Ok(())
     }
+}
+
+// Whether a code is known: none is above the largest.
+pub(crate) fn known(code: u8, largest: u8, unknown: Refusal) -> Result<(), Refusal>
+    ensures when { IsOk result ↔ (code ≤ largest) }
+    ensures why { IfErr result (λ r. r ≡ unknown) }
+{
+    if code > largest { Err(unknown) } else { Ok(()) }
 }

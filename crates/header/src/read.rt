@@ -1,28 +1,34 @@
-// Reading: the test of how the bytes start, and the fields behind that.
-ghost use Rattle.std.specs.Prelude.{◌≡◌, ◌≤◌, length};
+// Reading: the codes, tested where they stand, and then all fields.
+ghost use Rattle.std.specs.Prelude.{◌≡◌, ◌+◌, ◌≤◌, leb, length};
+ghost use Rattle.refusal.specs.Number.{number_of};
+ghost use Rattle.refusal.specs.Out.{need, ok};
+ghost use Rattle.refusal.specs.Said.{said};
 ghost use Rattle.header.specs.Answers.{said_read};
-ghost use Rattle.header.specs.Header.{degrees_at_lem, fields_of, read_fields_lem, starts_with};
+ghost use Rattle.header.specs.Bytes.{byte_at, number_at};
+ghost use Rattle.header.specs.Header.{degree_at_lem, degrees_at_lem, fields_of, read_fields_lem};
 
-use crate::bytes::u64_at;
-use crate::coordinates::degree_at;
-use crate::{Degrees, HEADER_SIZE, Header, HeaderRead, MAX_COMPRESSION, MAX_TILE_TYPE};
+use crate::{Degrees, HEADER_SIZE, Header, MAX_COMPRESSION, MAX_TILE_TYPE, known};
+use degrees::degrees_of;
 use refusal::Refusal;
 
-// Whether the bytes start with those of start, which are no more.
-pub(crate) fn starts_with(bytes: &[u8], start: &[u8]) -> bool
-    requires { length start.now ≤ length bytes.now }
-    ensures { result ≡ starts_with start.now bytes.now }
+#[tactic(auto, using(crate::proofs::LittleEndian::u64_from_bytes))]
+fn u64_at(bytes: &[u8], at: usize) -> u64
+    requires { at + 8 ≤ length bytes.now }
+    ensures { result ≡ number_at 8 bytes.now at }
 {
-    let mut i = 0;
-    while i < start.len() {
-        if start[i] != bytes[i] {
-            return false;
-        }
-        i += 1;
-    }
-    true
+    u64::from_le_bytes(bytes[at..at + 8].try_into().unwrap())
 }
 
+// The coordinate at a place, in degrees.
+#[tactic(auto, using(crate::proofs::LittleEndian::u32_from_bytes, crate::proofs::Twos::signed_is))]
+fn degree_at(bytes: &[u8], at: usize) -> f64
+    requires { at + 4 ≤ length bytes.now }
+    ensures { result ≡ degree_at_lem bytes.now at }
+{
+    degrees_of(i32::from_le_bytes(bytes[at..at + 4].try_into().unwrap()))
+}
+
+#[tactic(auto, unfolding(crate::specs::Header::degrees_at_lem))]
 fn degrees_at(bytes: &[u8]) -> Degrees
     requires { 127 ≤ length bytes.now }
     ensures { result ≡ degrees_at_lem bytes.now }
@@ -38,6 +44,7 @@ fn degrees_at(bytes: &[u8]) -> Degrees
 }
 
 // The fields of a header that is whole.
+#[tactic(auto, unfolding(crate::specs::Header::fields_of))]
 fn fields_of(bytes: &[u8]) -> Header
     requires { 127 ≤ length bytes.now }
     ensures { result ≡ fields_of bytes.now }
@@ -66,30 +73,24 @@ fn fields_of(bytes: &[u8]) -> Header
     }
 }
 
+// The code at a place, or why there is none.
+fn code_at(bytes: &[u8], at: usize, largest: u8, unknown: Refusal) -> Result<(), Refusal>
+    ensures { said (λ u. u) result ≡ need (leb (at + 1) (length bytes.now)) 1 (need (leb (byte_at bytes.now at) largest) (number_of unknown) (ok tt)) }
+{
+    let code = *bytes.get(at).ok_or(Refusal::InvalidHeader)?;
+    known(code, largest, unknown)
+}
+
 // The fields in order: each code is tested where it stands, even if fields behind it are missing.
-pub(crate) fn read_fields(bytes: &[u8]) -> HeaderRead
+#[tactic(auto, unfolding(crate::specs::Header::read_fields_lem))]
+pub(crate) fn read_fields(bytes: &[u8]) -> Result<Header, Refusal>
     ensures { said_read result ≡ read_fields_lem bytes.now }
 {
-    if bytes.len() < 98 {
-        return HeaderRead::Refused(Refusal::InvalidHeader);
-    }
-    if bytes[97] > MAX_COMPRESSION {
-        return HeaderRead::Refused(Refusal::InvalidCompression);
-    }
-    if bytes.len() < 99 {
-        return HeaderRead::Refused(Refusal::InvalidHeader);
-    }
-    if bytes[98] > MAX_COMPRESSION {
-        return HeaderRead::Refused(Refusal::InvalidCompression);
-    }
-    if bytes.len() < 100 {
-        return HeaderRead::Refused(Refusal::InvalidHeader);
-    }
-    if bytes[99] > MAX_TILE_TYPE {
-        return HeaderRead::Refused(Refusal::InvalidTileType);
-    }
+    code_at(bytes, 97, MAX_COMPRESSION, Refusal::InvalidCompression)?;
+    code_at(bytes, 98, MAX_COMPRESSION, Refusal::InvalidCompression)?;
+    code_at(bytes, 99, MAX_TILE_TYPE, Refusal::InvalidTileType)?;
     if bytes.len() < HEADER_SIZE {
-        return HeaderRead::Refused(Refusal::InvalidHeader);
+        return Err(Refusal::InvalidHeader);
     }
-    HeaderRead::Header(fields_of(bytes))
+    Ok(fields_of(bytes))
 }

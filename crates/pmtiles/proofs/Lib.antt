@@ -1,5 +1,4 @@
-pub mod Told
-pub mod Stores
-pub mod Made
+pub mod Bytes
+pub mod Copied
 pub mod HeaderSlots
 pub mod PublishSlots

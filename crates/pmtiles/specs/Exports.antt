@@ -1,6 +1,6 @@
 -- What an exported function answers: a status, and values in lent slots. Assumes nothing.
-use Rattle.std.specs.Prelude.{ℕ, List, [], ◌∷◌, ◌≡◌, leb, length}
-use Rattle.std.proofs.Math.Option.{Option, none, some}
+use Rattle.std.specs.Prelude.{ℕ, Option, None, Some, List, [], ◌∷◌, ◌≡◌, leb, length}
+use Rattle.std.proofs.Math.Option.{Option as Maybe, none, some}
 use Rattle.std.proofs.lemmas.List.Edits.{sets}
 use Rattle.refusal.specs.Out.{Out, ok, bad, ◌>>=◌, afterwards, need}
 use Rattle.directory.specs.Entries.{Entry}
@@ -30,29 +30,34 @@ pub record Answered {A : Type 0} (x : Out A) (values : A → List ℕ) (slots : 
 
 -- ---- a search, which may end with nothing
 
+-- what is there, in the definitions' words
+abbrev pub maybe_of : {A : Type 0} → Option A → Maybe A
+maybe_of (Some a) = some a
+maybe_of None = none
+
 -- 0 for what was found, 255 for nothing, else the refusal's number
-abbrev pub sought : {A : Type 0} → Out (Option A) → ℕ
+abbrev pub sought : {A : Type 0} → Out (Maybe A) → ℕ
 sought (ok (some a)) = 0
 sought (ok none) = 255
 sought (bad n) = n
 
 -- the slots afterwards: only what was found changes any
-abbrev pub found : {A : Type 0} → Out (Option A) → (A → List ℕ) → List ℕ → List ℕ
+abbrev pub found : {A : Type 0} → Out (Maybe A) → (A → List ℕ) → List ℕ → List ℕ
 found (ok (some a)) values slots = sets slots 0 (values a)
 found (ok none) values slots = slots
 found (bad n) values slots = slots
 
-pub record Sought {A : Type 0} (x : Out (Option A)) (values : A → List ℕ) (slots : List ℕ) (answer : ℕ) (slots' : List ℕ) : Type 0 where
+pub record Sought {A : Type 0} (x : Out (Maybe A)) (values : A → List ℕ) (slots : List ℕ) (answer : ℕ) (slots' : List ℕ) : Type 0 where
   pub says : answer ≡ sought x
   pub fills : slots' ≡ found x values slots
 
 -- what a search in a directory found: a tile's entry, or a pointer
-abbrev pub entry_found : Hit → Option Entry
+abbrev pub entry_found : Hit → Maybe Entry
 entry_found absent = none
 entry_found (tile e) = some e
 entry_found (leaf e) = some e
 
-abbrev pub searched : Out Hit → Out (Option Entry)
+abbrev pub searched : Out Hit → Out (Maybe Entry)
 searched x = x >>= λ h. ok (entry_found h)
 
 abbrev pub entry_values : Entry → List ℕ

@@ -4,8 +4,33 @@ ghost use Rattle.acceptance.specs.Accept.{accepting};
 ghost use Rattle.writer.specs.Answers.{building, sizes_in};
 ghost use Rattle.pmtiles.specs.Exports.{Answered, BuildTold, within};
 
-use crate::slots::{put_four, put_two};
-use writer::{Built, Sized};
+use crate::slots::{Values, tell};
+use acceptance::Counts;
+use directory::Stores;
+use refusal::Refusal;
+use writer::Sizes;
+
+impl Values<2> for Sizes {
+    ghost listed = { λ s. s.root ∷ s.leaves ∷ [] };
+
+    fn values(self) -> [u64; 2] {
+        [self.root as u64, self.leaves as u64]
+    }
+}
+
+impl Values<4> for (Sizes, Counts) {
+    ghost listed = { λ p. p.0.root ∷ p.0.leaves ∷ p.1.n_tile_entries ∷ p.1.n_addressed_tiles ∷ [] };
+
+    fn values(self) -> [u64; 4] {
+        let (sizes, counts) = self;
+        [
+            sizes.root as u64,
+            sizes.leaves as u64,
+            counts.n_tile_entries,
+            counts.n_addressed_tiles,
+        ]
+    }
+}
 
 // out: how many bytes the root has, and the leaves.
 pub fn pmt_build_sizes(
@@ -21,16 +46,14 @@ pub fn pmt_build_sizes(
         (within 2 out.old (sizes_in (accepting count ids.now runs.now lengths.now offsets.now data_length)))
         (λ s. s.root ∷ s.leaves ∷ []) out.old result out.new }
 {
-    if out.len() < 2 {
-        return 15;
-    }
-    match writer::build_sizes(count, ids, runs, lengths, offsets, data_length) {
-        Sized::Sizes(s) => {
-            put_two(out, 0, s.root as u64, s.leaves as u64);
-            0
-        }
-        Sized::Refused(r) => r.number(),
-    }
+    let stores = Stores {
+        count,
+        ids,
+        runs,
+        lengths,
+        offsets,
+    };
+    tell(out, writer::build_sizes(&stores, data_length))
 }
 
 // out: how many bytes the root has, and the leaves, then how many entries there are, and how many tiles they address.
@@ -50,29 +73,14 @@ pub fn pmt_build(
         root.old root.new leaves.old leaves.new out.old out.new }
 {
     if out.len() < 4 {
-        return 15;
+        return Refusal::RoomTooShort.number();
     }
-    match writer::build(
+    let stores = Stores {
         count,
         ids,
         runs,
         lengths,
         offsets,
-        data_length,
-        root,
-        leaves,
-    ) {
-        Built::Done(s, c) => {
-            put_four(
-                out,
-                0,
-                s.root as u64,
-                s.leaves as u64,
-                c.n_tile_entries,
-                c.n_addressed_tiles,
-            );
-            0
-        }
-        Built::Refused(r) => r.number(),
-    }
+    };
+    tell(out, writer::build(&stores, data_length, root, leaves))
 }

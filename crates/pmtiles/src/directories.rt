@@ -1,21 +1,17 @@
 // Directories read into lent stores.
-ghost use Rattle.std.specs.Prelude.{◌≡◌, length, replicate};
+ghost use Rattle.std.specs.Prelude.{◌≡◌, ◌∷◌, []};
 ghost use Rattle.directory.specs.Stores.{reading};
 ghost use Rattle.pmtiles.specs.Exports.{DirectoryTold, within};
 
-use crate::slots::put_two;
-use directory::DirectoryRead;
+use crate::slots::{Values, tell};
+use refusal::Refusal;
 
-// No bytes are no directory, and a refusal clears the stores.
-fn clear(ids: &mut [u64], runs: &mut [u32], lengths: &mut [u32], offsets: &mut [u64]) -> u8
-    ensures { (result ≡ 15)
-        × (ids.new ≡ replicate (length ids.old) 0)
-        × (runs.new ≡ replicate (length runs.old) 0)
-        × (lengths.new ≡ replicate (length lengths.old) 0)
-        × (offsets.new ≡ replicate (length offsets.old) 0) }
-{
-    directory::read(b"", ids, runs, lengths, offsets);
-    15
+impl Values<2> for (usize, usize) {
+    ghost listed = { λ p. p.0 ∷ p.1 ∷ [] };
+
+    fn values(self) -> [u64; 2] {
+        [self.0 as u64, self.1 as u64]
+    }
 }
 
 // out: how many entries, and how many bytes they took. A refusal leaves every slot of all four stores zero, also where
@@ -35,13 +31,11 @@ pub fn pmt_directory_read(
         out.old out.new }
 {
     if out.len() < 2 {
-        return clear(ids, runs, lengths, offsets);
+        ids.fill(0);
+        runs.fill(0);
+        lengths.fill(0);
+        offsets.fill(0);
+        return Refusal::RoomTooShort.number();
     }
-    match directory::read(bytes, ids, runs, lengths, offsets) {
-        DirectoryRead::Entries(n, used) => {
-            put_two(out, 0, n as u64, used as u64);
-            0
-        }
-        DirectoryRead::Refused(r) => r.number(),
-    }
+    tell(out, directory::read(bytes, ids, runs, lengths, offsets))
 }

@@ -1,69 +1,38 @@
 // Headers, as numbers and degrees in lent slots: both in the order of the header's fields.
-ghost use Rattle.std.specs.Prelude.{◌≡◌, ◌≤◌, drop, length, take};
-ghost use Rattle.std.proofs.lemmas.List.Edits.{sets};
+ghost use Rattle.std.specs.Prelude.{◌≡◌, ◌≤◌, length};
 ghost use Rattle.header.specs.Header.{read_header};
-ghost use Rattle.pmtiles.specs.Headers.{HeaderMade, HeaderTold, byte_of, degree_values, degrees_in_lem, fitting, header_values, header_with, lent, making_header};
+ghost use Rattle.pmtiles.specs.Headers.{HeaderMade, HeaderTold, byte_of, degrees_in_lem, fitting, header_values, header_with, lent, making_header};
 
-use crate::slots::{put_bytes, put_four, put_three};
-use header::{Degrees, Header, HeaderRead, HeaderWritten};
+use crate::slots::{Values, put, tell};
+use header::{Degrees, Header};
+use refusal::Refusal;
 
-// The version and the sections.
-fn put_sections(out: &mut [u64], h: Header)
-    requires { 19 ≤ length out.old }
-    ensures { out.new ≡ sets out.old 0 (take 9 (header_values h)) }
-{
-    out[0] = h.version as u64;
-    put_four(
-        out,
-        1,
-        h.root_offset,
-        h.root_length,
-        h.metadata_offset,
-        h.metadata_length,
-    );
-    put_four(
-        out,
-        5,
-        h.leaf_offset,
-        h.leaf_length,
-        h.data_offset,
-        h.data_length,
-    );
-}
+impl Values<19> for Header {
+    ghost listed = { header_values };
 
-// The counts, the flag, the codes and the zooms.
-fn put_settings(out: &mut [u64], h: Header)
-    requires { 19 ≤ length out.old }
-    ensures { out.new ≡ sets out.old 9 (drop 9 (header_values h)) }
-{
-    put_three(
-        out,
-        9,
-        h.n_addressed_tiles,
-        h.n_tile_entries,
-        h.n_tile_contents,
-    );
-    out[12] = h.clustered as u64;
-    put_bytes(
-        out,
-        13,
-        h.internal_compression,
-        h.tile_compression,
-        h.tile_type,
-    );
-    put_bytes(out, 16, h.min_zoom, h.max_zoom, h.center_zoom);
-}
-
-fn put_degrees(out: &mut [f64], d: Degrees)
-    requires { 6 ≤ length out.old }
-    ensures { out.new ≡ sets out.old 0 (degree_values d) }
-{
-    out[0] = d.min_longitude;
-    out[1] = d.min_latitude;
-    out[2] = d.max_longitude;
-    out[3] = d.max_latitude;
-    out[4] = d.center_longitude;
-    out[5] = d.center_latitude;
+    fn values(self) -> [u64; 19] {
+        [
+            u64::from(self.version),
+            self.root_offset,
+            self.root_length,
+            self.metadata_offset,
+            self.metadata_length,
+            self.leaf_offset,
+            self.leaf_length,
+            self.data_offset,
+            self.data_length,
+            self.n_addressed_tiles,
+            self.n_tile_entries,
+            self.n_tile_contents,
+            u64::from(self.clustered),
+            u64::from(self.internal_compression),
+            u64::from(self.tile_compression),
+            u64::from(self.tile_type),
+            u64::from(self.min_zoom),
+            u64::from(self.max_zoom),
+            u64::from(self.center_zoom),
+        ]
+    }
 }
 
 // out: the 19 numbers, clustered as 1 or 0. degrees: the six degrees.
@@ -71,55 +40,48 @@ pub fn pmt_header_read(bytes: &[u8], out: &mut [u64], degrees: &mut [f64]) -> u8
     ensures { HeaderTold (lent out.old degrees.old (read_header bytes.now)) result
         out.old out.new degrees.old degrees.new }
 {
-    if out.len() < 19 {
-        return 15;
+    if out.len() < 19 || degrees.len() < 6 {
+        return Refusal::RoomTooShort.number();
     }
-    if degrees.len() < 6 {
-        return 15;
+    let header = Header::try_from_bytes(bytes);
+    if let Ok(h) = header {
+        let d = h.degrees;
+        put(
+            degrees,
+            [
+                d.min_longitude,
+                d.min_latitude,
+                d.max_longitude,
+                d.max_latitude,
+                d.center_longitude,
+                d.center_latitude,
+            ],
+        );
     }
-    match Header::try_from_bytes(bytes) {
-        HeaderRead::Header(h) => {
-            put_sections(out, h);
-            put_settings(out, h);
-            let d = h.degrees;
-            put_degrees(degrees, d);
-            0
-        }
-        HeaderRead::Refused(r) => r.number(),
-    }
+    tell(out, header)
 }
 
 // Whether each number fits its field, save the codes: one above 255 is as unknown as 255.
-fn fits(numbers: &[u64]) -> bool
-    requires { 19 ≤ length numbers.now }
+#[tactic(auto, unfolding(crate::specs::Headers::fitting))]
+fn fits(numbers: &[u64; 19]) -> bool
     ensures { result ≡ fitting numbers.now }
 {
-    if numbers[0] > 255 {
-        return false;
-    }
-    if numbers[12] > 1 {
-        return false;
-    }
-    if numbers[16] > 255 {
-        return false;
-    }
-    if numbers[17] > 255 {
-        return false;
-    }
-    numbers[18] <= 255
+    numbers[0] <= 255
+        && numbers[12] <= 1
+        && numbers[16] <= 255
+        && numbers[17] <= 255
+        && numbers[18] <= 255
 }
 
-pub(crate) fn byte_of(x: u64) -> u8
+#[tactic(auto, unfolding(crate::specs::Headers::byte_of))]
+pub(crate) fn to_byte(x: u64) -> u8
     ensures { result ≡ byte_of x }
 {
-    if x > 255 {
-        return 255;
-    }
-    x as u8
+    u8::try_from(x).unwrap_or(255)
 }
 
-pub(crate) fn degrees_in(degrees: &[f64]) -> Degrees
-    requires { 6 ≤ length degrees.now }
+#[tactic(auto, unfolding(crate::specs::Headers::degrees_in_lem))]
+pub(crate) fn degrees_in(degrees: &[f64; 6]) -> Degrees
     ensures { result ≡ degrees_in_lem degrees.now }
 {
     Degrees {
@@ -132,12 +94,12 @@ pub(crate) fn degrees_in(degrees: &[f64]) -> Degrees
     }
 }
 
-fn header_in(numbers: &[u64], degrees: &[f64]) -> Header
-    requires { (19 ≤ length numbers.now) × (6 ≤ length degrees.now) }
+#[tactic(auto, unfolding(crate::specs::Headers::header_with))]
+fn header_in(numbers: &[u64; 19], degrees: &[f64; 6]) -> Header
     ensures { result ≡ header_with byte_of numbers.now degrees.now }
 {
     Header {
-        version: byte_of(numbers[0]),
+        version: to_byte(numbers[0]),
         root_offset: numbers[1],
         root_length: numbers[2],
         metadata_offset: numbers[3],
@@ -150,38 +112,34 @@ fn header_in(numbers: &[u64], degrees: &[f64]) -> Header
         n_tile_entries: numbers[10],
         n_tile_contents: numbers[11],
         clustered: numbers[12] == 1,
-        internal_compression: byte_of(numbers[13]),
-        tile_compression: byte_of(numbers[14]),
-        tile_type: byte_of(numbers[15]),
-        min_zoom: byte_of(numbers[16]),
-        max_zoom: byte_of(numbers[17]),
+        internal_compression: to_byte(numbers[13]),
+        tile_compression: to_byte(numbers[14]),
+        tile_type: to_byte(numbers[15]),
+        min_zoom: to_byte(numbers[16]),
+        max_zoom: to_byte(numbers[17]),
         degrees: degrees_in(degrees),
-        center_zoom: byte_of(numbers[18]),
+        center_zoom: to_byte(numbers[18]),
     }
 }
 
 // The header that the slots give, into the first 127 bytes. 1 for a version or a zoom above 255 and for a flag above 1;
 // then 4, 5 and 15 as the header's own writing has them, 4 and 5 for a code above 255 too.
+#[tactic(auto, using(crate::proofs::HeaderSlots::header_steps), unfolding(crate::specs::Headers::making_header))]
 pub fn pmt_header_write(numbers: &[u64], degrees: &[f64], bytes: &mut [u8]) -> u8
     ensures { HeaderMade (making_header numbers.now degrees.now (length bytes.old)) result
         bytes.old bytes.new }
 {
-    if numbers.len() < 19 {
-        return 15;
+    let Some(numbers) = numbers.first_chunk() else {
+        return Refusal::RoomTooShort.number();
+    };
+    let Some(degrees) = degrees.first_chunk() else {
+        return Refusal::RoomTooShort.number();
+    };
+    if !fits(numbers) {
+        return Refusal::InvalidHeader.number();
     }
-    if degrees.len() < 6 {
-        return 15;
+    match header_in(numbers, degrees).write_to(bytes) {
+        Ok(()) => 0,
+        Err(r) => r.number(),
     }
-    if fits(numbers) {
-        let h = header_in(numbers, degrees);
-        match h.write_to(bytes) {
-            HeaderWritten::Done => {
-                return 0;
-            }
-            HeaderWritten::Refused(r) => {
-                return r.number();
-            }
-        }
-    }
-    1
 }

@@ -1,57 +1,43 @@
 // Tile ids both ways.
 ghost use Rattle.std.specs.Prelude.{◌≡◌, ◌∷◌, []};
-ghost use Rattle.tile.specs.Answers.{said_coord, said_id, to_coord_lem, to_id};
+ghost use Rattle.tile.specs.Answers.{to_coord_lem, to_id};
 ghost use Rattle.pmtiles.specs.Exports.{Answered, within};
 
-use crate::slots::put_three;
-use tile::{CoordAnswer, IdAnswer, TileCoord, TileId};
+use crate::slots::{Values, tell};
+use tile::{TileCoord, TileId};
 
-fn id_of(z: u8, x: u32, y: u32) -> IdAnswer
-    ensures { said_id result ≡ to_id z x y }
-{
-    match TileCoord::new(z, x, y) {
-        CoordAnswer::Coord(c) => c.to_id(),
-        CoordAnswer::Refused(r) => IdAnswer::Refused(r),
+impl Values<1> for TileId {
+    ghost listed = { λ i. i.0 ∷ [] };
+
+    fn values(self) -> [u64; 1] {
+        [self.value()]
     }
 }
 
-fn coord_of(id: u64) -> CoordAnswer
-    ensures { said_coord result ≡ to_coord_lem id }
-{
-    match TileId::new(id) {
-        IdAnswer::Id(i) => i.to_coord(),
-        IdAnswer::Refused(r) => CoordAnswer::Refused(r),
+impl Values<3> for TileCoord {
+    ghost listed = { λ c. c.z ∷ c.x ∷ c.y ∷ [] };
+
+    fn values(self) -> [u64; 3] {
+        [
+            u64::from(self.z()),
+            u64::from(self.x()),
+            u64::from(self.y()),
+        ]
     }
 }
 
 // out: the id.
+#[tactic(auto, unfolding(tile::specs::Answers::new_coord, tile::specs::Answers::to_id))]
 pub fn pmt_tile_id(z: u8, x: u32, y: u32, out: &mut [u64]) -> u8
     ensures { Answered (within 1 out.old (to_id z x y)) (λ i. i ∷ []) out.old result out.new }
 {
-    if out.len() < 1 {
-        return 15;
-    }
-    match id_of(z, x, y) {
-        IdAnswer::Id(i) => {
-            out[0] = i.value();
-            0
-        }
-        IdAnswer::Refused(r) => r.number(),
-    }
+    tell(out, TileCoord::new(z, x, y).and_then(TileCoord::to_id))
 }
 
 // out: zoom, x, y.
+#[tactic(auto, unfolding(tile::specs::Answers::new_id, tile::specs::Answers::to_coord_lem))]
 pub fn pmt_tile_coord(id: u64, out: &mut [u64]) -> u8
     ensures { Answered (within 3 out.old (to_coord_lem id)) (λ (z, p). z ∷ p.0 ∷ p.1 ∷ []) out.old result out.new }
 {
-    if out.len() < 3 {
-        return 15;
-    }
-    match coord_of(id) {
-        CoordAnswer::Coord(c) => {
-            put_three(out, 0, c.z() as u64, c.x() as u64, c.y() as u64);
-            0
-        }
-        CoordAnswer::Refused(r) => r.number(),
-    }
+    tell(out, TileId::new(id).and_then(TileId::to_coord))
 }

@@ -4,7 +4,9 @@ ghost use Rattle.writer.specs.Write.{encoding};
 ghost use Rattle.writer.specs.Answers.{length_of, writing};
 ghost use Rattle.pmtiles.specs.Exports.{Answered, WriteTold, within};
 
-use writer::Length;
+use crate::slots::tell;
+use directory::Stores;
+use refusal::Refusal;
 
 // out: how many bytes the directory has.
 pub fn pmt_encoded_len(
@@ -19,16 +21,14 @@ pub fn pmt_encoded_len(
         (within 1 out.old (length_of (encoding count ids.now runs.now lengths.now offsets.now)))
         (λ n. n ∷ []) out.old result out.new }
 {
-    if out.len() < 1 {
-        return 15;
-    }
-    match writer::encoded_len(count, ids, runs, lengths, offsets) {
-        Length::Bytes(n) => {
-            out[0] = n as u64;
-            0
-        }
-        Length::Refused(r) => r.number(),
-    }
+    let stores = Stores {
+        count,
+        ids,
+        runs,
+        lengths,
+        offsets,
+    };
+    tell(out, writer::encoded_len(&stores))
 }
 
 // out: how many bytes were written.
@@ -45,14 +45,15 @@ pub fn pmt_directory_write(
         (within 1 out.old (writing count ids.now runs.now lengths.now offsets.now (length bytes.old))) result
         bytes.old bytes.new out.old out.new }
 {
-    if out.len() < 1 {
-        return 15;
+    if out.is_empty() {
+        return Refusal::RoomTooShort.number();
     }
-    match writer::write(count, ids, runs, lengths, offsets, bytes) {
-        Length::Bytes(n) => {
-            out[0] = n as u64;
-            0
-        }
-        Length::Refused(r) => r.number(),
-    }
+    let stores = Stores {
+        count,
+        ids,
+        runs,
+        lengths,
+        offsets,
+    };
+    tell(out, writer::write(&stores, bytes))
 }

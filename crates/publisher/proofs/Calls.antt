@@ -2,7 +2,6 @@
 use mathlib.Core.Path.{◌≡◌, refl, sym, ap, ap₂, ◌∙◌, subst}
 use mathlib.Core.List.{List, [], ◌∷◌, map}
 use Prim.Native.Nat.{ℕ, zero, suc, ◌+◌, ◌-◌, ◌≤◌, min}
-use native.Mathlib.Nat.{zero-min, min-zero, suc-min-suc}
 use native.Mathlib.Omega.{arith}
 use lib.ListN.{length, take, drop, replicate, length-drop}
 use lib.Seq.{drop-drop, drop-length, take-add, take-nil}
@@ -14,14 +13,10 @@ use Rattle.publisher.specs.Calls.{Accepted, AcceptedFor, Parts, Standing, callin
 use Rattle.publisher.proofs.Admitted.{publishes}
 use Rattle.publisher.proofs.Demand.{length-plan, length-stores}
 use Rattle.publisher.proofs.Places.{just-those}
-use Rattle.publisher.proofs.Stores.{stored-append, length-stored, take-least}
+use Rattle.publisher.proofs.Stores.{stored-append, length-stored}
+use Rattle.std.proofs.lemmas.List.{drop_min, take_min}
 
 -- ---- over any list of stores
-
-drop-least : {A : Type 0} (n : ℕ) (l : List A) → drop (min n (length l)) l ≡ drop n l
-drop-least zero l = rw zero-min
-drop-least (suc n) [] = rw min-zero
-drop-least (suc n) (x ∷ l) = rw suc-min-suc (drop-least n l)
 
 -- k stores from p on and then n stores
 pub then-stores : (p k n : ℕ) (ss : List Store) (d : List ℕ) → stored_from (p + k) n ss (stored_from p k ss d) ≡ stored_from p (k + n) ss d
@@ -34,7 +29,7 @@ two-calls p k n ss d =
     let e : drop (p + min k (length ss - p)) ss ≡ drop (p + k) ss =
     sym (drop-drop (min k (length ss - p)) p ss)
     ∙ ap (λ (j : ℕ). drop (min k j) (drop p ss)) (sym (length-drop p ss))
-    ∙ drop-least k (drop p ss)
+    ∙ drop_min k (drop p ss)
     ∙ drop-drop k p ss in
     rw e (then-stores p k n ss d)
 
@@ -74,7 +69,7 @@ any-calls x bs d a =
     calls-sum x bs d 0 a (omega arith)
     ∙ ap₂ {C = Out Standing} (λ (k : ℕ) (l : List ℕ). ok (standing k l)) (omega arith)
     (ap (λ (ss : List Store). stored ss d)
-    (sym (take-least (sum bs) (stores_of x))
+    (sym (take_min (sum bs) (stores_of x))
     ∙ ap (λ (n : ℕ). take (min (sum bs) n) (stores_of x)) (length-stores x.settings x.counts x.root x.metadata x.tiles x.leaves)))
 
 sum_ones : (b : ℕ) → sum (replicate b 1) ≡ b

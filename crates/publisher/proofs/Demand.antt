@@ -14,7 +14,7 @@ use Rattle.acceptance.specs.declared.Counts.{Counts}
 use Rattle.publisher.specs.declared.Settings.{Settings}
 use Rattle.publisher.specs.Plan.{Store, header_for, upward, stored, zeros, behind, front, plan, image, stores}
 use Rattle.publisher.specs.Publish.{total}
-use Rattle.publisher.proofs.Stores.{stored-append, stored-upward, length-stored, length-upward, length-zeros, drop-zeros, zeros-append}
+use Rattle.publisher.proofs.Stores.{stored-append, stored-upward, length-upward, length-zeros, drop-zeros, zeros-append}
 use Rattle.publisher.proofs.Runs.{length-behind}
 
 -- ---- how many stores there are
@@ -160,10 +160,6 @@ after-some H R M T L d (suc q) z h n a b =
     let within : q ≤ length E = omega arith in
     rw (plan-parts H R M T L, take-append-le q E (upward 0 (take 1 H)) within)
     (kept-first (take q E) (set d 0 0) z (off-take q E (off-early H R M T L)) ∙ get_or-set_same d 0 0 z n)
-
--- and however many stores are done, the destination's length stays
-pub after-length : (H R M T L d : List ℕ) (p : ℕ) → length (stored (take p (plan H R M T L)) d) ≡ length d
-after-length H R M T L d p = length-stored (take p (plan H R M T L)) d
 
 -- ---- the same of a publication's stores
 

@@ -11,7 +11,8 @@ use lib.Dec.{ltb}
 use lib.ListN.{length, get_or, take, drop, length-append, length-drop, get_or-append}
 use lib.Seq.{drop-cons, get_or-append-add, get_or-drop, get_or-take, length-take-le}
 use Rattle.publisher.specs.Plan.{Store, upward, stored, stored_from, zeros, behind, front, plan, store_at_lem, numbers}
-use Rattle.publisher.proofs.Stores.{length-upward, get_d-upward, length-zeros, get_d-zeros, take-least}
+use Rattle.publisher.proofs.Stores.{length-upward, get_d-upward, length-zeros, get_d-zeros}
+use Rattle.std.proofs.lemmas.List.{take_min}
 use Rattle.publisher.proofs.Demand.{length-plan}
 
 -- sections that lie end to end are one
@@ -118,6 +119,6 @@ pub just-those : (H R M T L d : List ℕ) (p n : ℕ) → length H ≡ 127 → p
     → stored_from p n (plan H R M T L) d ≡ stored (map (store_at_lem H R M T L) (numbers p (min n (length (plan H R M T L) - p)))) d
 just-those H R M T L d p n h a =
     ap (λ (ss : List Store). stored ss d)
-    (sym (take-least n (drop p (plan H R M T L)))
+    (sym (take_min n (drop p (plan H R M T L)))
     ∙ ap (λ (k : ℕ). take (min n k) (drop p (plan H R M T L))) (length-drop p (plan H R M T L))
     ∙ stores-from H R M T L p (min n (length (plan H R M T L) - p)) h (omega arith))

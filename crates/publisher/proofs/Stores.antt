@@ -1,13 +1,15 @@
 -- Laws of byte stores in a row. Assumes nothing.
 use mathlib.Core.Path.{◌≡◌, refl, sym, ap, ◌∙◌}
-use mathlib.Core.List.{List, [], ◌∷◌, ◌++◌}
-use Prim.Native.Nat.{ℕ, zero, suc, ◌+◌, ◌-◌, ◌<◌, min}
-use native.Mathlib.Nat.{add-zero, zero-add, add-suc, suc-add, zero-sub, sub-zero, suc-sub-suc, not-suc-le-zero, le_of_suc-le-suc, zero-min, min-zero, suc-min-suc}
+use mathlib.Core.List.{List, [], ◌∷◌, ◌++◌, append_assoc}
+use Prim.Native.Nat.{ℕ, zero, suc, ◌+◌, ◌-◌, ◌≤◌, ◌<◌, min}
+use native.Mathlib.Nat.{add-zero, zero-add, add-suc, suc-add, zero-sub, sub-zero, suc-sub-suc, not-suc-le-zero, le_of_suc-le-suc}
 use native.Mathlib.Omega.{arith}
-use lib.ListN.{length, get_or, take, drop, set, length-set, length-drop, length-replicate, replicate-append-replicate}
-use lib.Seq.{take-suc, take-nil, drop-nil, sets, get_or-drop}
+use borrow.Rule.Slice.PartMut.{put_mid}
+use lib.ListN.{length, get_or, take, drop, replicate, set, length-append, length-set, length-drop, length-take, length-replicate, replicate-append-replicate}
+use lib.Seq.{take-nil, drop-nil, drop-drop, sets, sets-eq}
+use Rattle.std.proofs.lemmas.List.{drop-replicate, drop_min, take-replicate, take_min}
 use Rattle.publisher.specs.declared.sections.Cut.{Cut}
-use Rattle.publisher.specs.Cuts.{past}
+use Rattle.publisher.specs.Cuts.{Done, past}
 use Rattle.publisher.specs.Plan.{Store, upward, stored, stored_from, zeros}
 
 -- ---- the stores from p on, of two parts
@@ -27,11 +29,6 @@ pub cut : {A : Type 0} (p n : ℕ) (xs ys : List A)
     → take n (drop p (xs ++ ys)) ≡ take n (drop p xs) ++ take (n - (length xs - p)) (drop (p - length xs) ys)
 cut p n xs ys = rw (drop-append, take-append, length-drop)
 
-pub take-least : {A : Type 0} (n : ℕ) (l : List A) → take (min n (length l)) l ≡ take n l
-take-least zero l = rw zero-min
-take-least (suc n) [] = rw min-zero
-take-least (suc n) (x ∷ l) = rw (suc-min-suc, take-least n l)
-
 -- ---- stores in a row
 
 pub stored-append : (ss ts : List Store) (d : List ℕ) → stored (ss ++ ts) d ≡ stored ts (stored ss d)
@@ -42,25 +39,21 @@ pub length-stored : (ss : List Store) (d : List ℕ) → length (stored ss d) �
 length-stored [] d = refl
 length-stored (s ∷ ss) d = length-stored ss (set d s.place s.byte) ∙ length-set d s.place s.byte
 
--- one store more
-pub stored_next : (ss : List Store) (d : List ℕ) (k : ℕ) (z : Store) → k < length ss
-    → set (stored (take k ss) d) (get_or ss k z).place (get_or ss k z).byte ≡ stored (take (suc k) ss) d
-stored_next ss d k z h = sym (ap (λ (l : List Store). stored l d) (take-suc ss k z h) ∙ stored-append (take k ss) (get_or ss k z ∷ []) d)
-
 -- the call over two parts: the first part's stores, and then the second's
 pub run-cut : (p n : ℕ) (ss ts : List Store) (d : List ℕ)
     → stored_from p n (ss ++ ts) d ≡ stored_from (p - length ss) (n - (length ss - p)) ts (stored_from p n ss d)
 run-cut p n ss ts d = rw (cut, stored-append)
 
--- the same, one link at a time: behind the first part the call goes on as `past` says, from what the first part's stores left
-pub link : (ss ts : List Store) (p n k : ℕ) (d d' : List ℕ) (c : Cut) → length ss ≡ k → c ≡ past k p n → d' ≡ stored_from p n ss d
-    → stored_from p n (ss ++ ts) d ≡ stored_from c.skip c.left ts d'
+-- two parts that were done, one after the other
+pub done_both : (ss ts : List Store) (c c' c'' : Cut) (d d' d'' : List ℕ) → Done ss c d c' d' → Done ts c' d' c'' d'' → Done (ss ++ ts) c d c'' d''
 unfolding past
-link ss ts p n k d d' c len ec ed = run-cut p n ss ts d ∙ rw (len, ed, ec)
-
-pub made : (n p l s t : ℕ) → s ≡ p - n → t ≡ l - (n - p) → ◌≡◌ {A = Cut} (record { skip = s; left = t }) (past n p l)
-unfolding past
-made n p l s t e f = cc
+done_both ss ts c c' c'' d d' d'' a b =
+    let skips : c.skip - length ss - length ts ≡ c.skip - (length ss + length ts) = omega arith in
+    let does : c.left - (length ss - c.skip) - (length ts - (c.skip - length ss)) ≡ c.left - (length ss + length ts - c.skip) = omega arith in
+    record {
+      stands = b.stands ∙ rw (a.stands, length-append) (cc);
+      leaves = b.leaves ∙ rw (a.leaves, a.stands) (sym (run-cut c.skip c.left ss ts d));
+    }
 
 -- ---- a section
 
@@ -74,27 +67,40 @@ get_d-upward i [] k z h = absurd (not-suc-le-zero h)
 get_d-upward i (b ∷ bs) zero z h = rw add-zero
 get_d-upward i (b ∷ bs) (suc k) z h = get_d-upward (suc i) bs k z (le_of_suc-le-suc h) ∙ rw (suc-add, add-suc)
 
+take-upward : (n i : ℕ) (bs : List ℕ) → take n (upward i bs) ≡ upward i (take n bs)
+take-upward zero i bs = refl
+take-upward (suc n) i [] = refl
+take-upward (suc n) i (b ∷ bs) = ap (λ (ss : List Store). record { place = i; byte = b } ∷ ss) (take-upward n (suc i) bs)
+
+drop-upward : (n i : ℕ) (bs : List ℕ) → drop n (upward i bs) ≡ upward (i + n) (drop n bs)
+drop-upward zero i bs = rw add-zero
+drop-upward (suc n) i [] = refl
+drop-upward (suc n) i (b ∷ bs) = drop-upward n (suc i) bs ∙ rw (suc-add, add-suc)
+
 pub stored-upward : (i : ℕ) (bs d : List ℕ) → stored (upward i bs) d ≡ sets d i bs
 stored-upward i [] d = refl
 stored-upward i (b ∷ bs) d = stored-upward (suc i) bs (set d i b)
 
--- a turn of the loop over a section
-pub section-next : (i : ℕ) (bs d : List ℕ) (p k : ℕ) → p + k < length bs
-    → set (stored_from p k (upward i bs) d) (i + (p + k)) (get_or bs (p + k) 0) ≡ stored_from p (suc k) (upward i bs) d
-section-next i bs d p k h =
-    let z : Store = record { place = 0; byte = 0 } in
-    let e : get_or (drop p (upward i bs)) k z ≡ record { place = i + (p + k); byte = get_or bs (p + k) 0 } =
-    get_or-drop p (upward i bs) k z ∙ get_d-upward i bs (p + k) z h in
-    ap (λ (s : Store). set (stored_from p k (upward i bs) d) s.place s.byte) (sym e)
-    ∙ stored_next (drop p (upward i bs)) d k z (simp (length-drop, length-upward) (omega arith))
+-- of the elements from p on, the first n, or as many as there are
+least : {A : Type 0} (p n : ℕ) (l : List A) → take (min n (length l - p)) (drop (min p (length l)) l) ≡ take n (drop p l)
+least p n l = rw (drop_min, ← length-drop, take_min)
 
--- at the loop's end: as many stores as the budget and the section allow
-pub section-done : (i : ℕ) (bs d : List ℕ) (p n : ℕ)
-    → stored_from p (min n (length bs - p)) (upward i bs) d ≡ stored_from p n (upward i bs) d
-section-done i bs d p n =
-    ap (λ (l : List Store). stored l d)
-    (ap (λ (m : ℕ). take (min n m) (drop p (upward i bs))) (sym (simp (length-drop, length-upward)))
-    ∙ take-least n (drop p (upward i bs)))
+-- a section is done: its bytes from s to e, ys, lie in their slots
+pub section_done : (i : ℕ) (bs d ys : List ℕ) (c c' : Cut) (s e : ℕ) → i + length bs ≤ length d → s ≡ min c.skip (length bs)
+    → e ≡ min c.skip (length bs) + min c.left (length bs - c.skip) → ys ≡ take (e - s) (drop s bs) → c' ≡ past (length bs) c
+    → Done (upward i bs) c d c' (put_mid (i + s) (i + e - (i + s)) d ys)
+section_done i bs d ys c c' s e room es ee ey ec =
+    let n : e - s ≡ min c.left (length bs - c.skip) = omega arith in
+    let len : length ys ≡ e - s = rw ey (simp (length-take, length-drop) (omega arith)) in
+    let slots : i + e - (i + s) ≡ e - s = omega arith in
+    let part : take c.left (drop c.skip (upward i bs)) ≡ upward (i + s) ys =
+    sym (least c.skip c.left (upward i bs)) ∙ rw (length-upward, drop-upward, take-upward, ← es, ← n, ← ey) in
+    record {
+      stands = rw length-upward ec;
+      leaves =
+          sym (ap (λ (ss : List Store). stored ss d) part ∙ stored-upward (i + s) ys d ∙ sets-eq ys d (i + s) (omega arith)
+          ∙ rw (append_assoc, len, slots, ← drop-drop));
+    }
 
 -- ---- the zeros
 
@@ -110,22 +116,18 @@ get_d-zeros (suc n) (suc k) = get_d-zeros n k
 
 pub drop-zeros : (n m : ℕ) → drop n (zeros m) ≡ zeros (m - n)
 unfolding zeros
-drop-zeros zero m = rw sub-zero
-drop-zeros (suc n) zero = rw zero-sub
-drop-zeros (suc n) (suc m) = rw suc-sub-suc (drop-zeros n m)
+drop-zeros n m = drop-replicate n m 0
 
 pub zeros-append : (n m : ℕ) → zeros n ++ zeros m ≡ zeros (n + m)
 unfolding zeros
 zeros-append n m = replicate-append-replicate n m 0
 
-pub clear_next : (d : List ℕ) (p k : ℕ) → p + k < 16384
-    → set (stored_from p k (upward 0 (zeros 16384)) d) (p + k) 0 ≡ stored_from p (suc k) (upward 0 (zeros 16384)) d
-clear_next d p k h =
-    ap (λ (i : ℕ). set (stored_from p k (upward 0 (zeros 16384)) d) i 0) (sym (zero-add (p + k)))
-    ∙ ap (λ (b : ℕ). set (stored_from p k (upward 0 (zeros 16384)) d) (0 + (p + k)) b) (sym (get_d-zeros 16384 (p + k)))
-    ∙ section-next 0 (zeros 16384) d p k (rw length-zeros h)
-
-pub clear-done : (d : List ℕ) (p n : ℕ) → stored_from p (min n (16384 - p)) (upward 0 (zeros 16384)) d ≡ stored_from p n (upward 0 (zeros 16384)) d
-clear-done d p n =
-    ap (λ (m : ℕ). stored_from p (min n (m - p)) (upward 0 (zeros 16384)) d) (sym (length-zeros 16384))
-    ∙ section-done 0 (zeros 16384) d p n
+-- the same of m zeros from the start on
+pub zeros_done : (d ys : List ℕ) (c c' : Cut) (m s e : ℕ) → m ≤ length d → s ≡ min c.skip m → e ≡ min c.skip m + min c.left (m - c.skip)
+    → ys ≡ replicate (length (take (e - s) (drop s d))) 0 → c' ≡ past m c → Done (upward 0 (zeros m)) c d c' (put_mid s (e - s) d ys)
+unfolding zeros
+zeros_done d ys c c' m s e room es ee ey ec =
+    let h : e - s ≤ m - s = omega arith in
+    let k : length (take (e - s) (drop s d)) ≡ e - s = simp (length-take, length-drop) (omega arith) in
+    simp zero-add at (section_done 0 (zeros m) d ys c c' s e (rw (length-zeros, zero-add) room) (rw length-zeros es) (rw length-zeros ee)
+    (rw (drop-replicate, take-replicate, ← k) ey) (rw length-zeros ec))

@@ -1,16 +1,22 @@
 -- What the publisher's functions answer, in the words of the definitions. Assumes nothing.
-use Rattle.std.specs.Prelude.{ℕ}
-use Rattle.refusal.specs.Out.{Out, ok, bad}
-use Rattle.refusal.specs.Number.{number_of}
-use Rattle.publisher.specs.declared.Totalled.{Totalled}
-use Rattle.publisher.specs.declared.Totalled.TheVariants as to
-use Rattle.publisher.specs.declared.Published.{Published}
-use Rattle.publisher.specs.declared.Published.TheVariants as pu
+use Rattle.std.specs.Prelude.{ℕ, List, Result, length}
+use Rattle.refusal.specs.Out.{Out}
+use Rattle.refusal.specs.Said.{said}
+use Rattle.refusal.specs.declared.Refusal.{Refusal}
+use Rattle.publisher.specs.declared.Parts.{Parts}
 
-abbrev pub said_total : Totalled → Out ℕ
-said_total (to.Stores n) = ok n
-said_total (to.Refused r) = bad (number_of r)
+-- how many stores
+abbrev pub said_total : Result ℕ Refusal → Out ℕ
+said_total = said (λ n. n)
 
-abbrev pub said_published : Published → Out ℕ
-said_published (pu.Position p) = ok p
-said_published (pu.Refused r) = bad (number_of r)
+-- the new position
+abbrev pub said_published : Result ℕ Refusal → Out ℕ
+said_published = said (λ p. p)
+
+-- f of the bytes of root, metadata, data and leaves
+abbrev pub over_parts {ℓ} : {A : Type ℓ} → Parts → (List ℕ → List ℕ → List ℕ → List ℕ → A) → A
+over_parts x f = f x.root.now x.metadata.now x.tiles.now x.leaves.now
+
+-- f of how many bytes they have
+abbrev pub over_lengths {ℓ} : {A : Type ℓ} → Parts → (ℕ → ℕ → ℕ → ℕ → A) → A
+over_lengths x f = over_parts x (λ r m d l. f (length r) (length m) (length d) (length l))

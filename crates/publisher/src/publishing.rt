@@ -1,159 +1,103 @@
 // Publication: what a call answers, and its stores.
 ghost use Rattle.std.specs.Prelude.{◌≡◌, length};
 ghost use Rattle.refusal.specs.Out.{afterwards};
-ghost use Rattle.publisher.specs.Answers.{said_published, said_total};
+ghost use Rattle.publisher.specs.Answers.{over_lengths, over_parts, said_published, said_total};
 ghost use Rattle.publisher.specs.Calls.{Accepted};
+ghost use Rattle.publisher.specs.Cuts.{stored_by};
 ghost use Rattle.publisher.specs.Plan.{stored_from, stores};
-ghost use Rattle.publisher.specs.Publish.{advancing, publishing, totalling};
+ghost use Rattle.publisher.specs.Publish.{publishing, totalling};
 
 use crate::head::{bytes_of, heading};
-use crate::sections::{fill_behind, fill_front};
-use crate::{Published, Settings, Totalled};
+use crate::sections::{Cut, fill_behind, fill_front};
+use crate::{Lengths, Parts, Settings};
 use acceptance::Counts;
-use header::{MAX_COMPRESSION, MAX_INITIAL_BYTES, MAX_TILE_TYPE};
+use header::{HEADER_SIZE, MAX_COMPRESSION, MAX_INITIAL_BYTES, MAX_TILE_TYPE};
 use refusal::Refusal;
 
-// The stores of an archive that holds nothing: 16384 zeros, and the header over them.
-const FEWEST: u64 = 16511;
+// The stores of an archive that holds nothing: the zeros, and the header over them.
+const FEWEST: u64 = (MAX_INITIAL_BYTES + HEADER_SIZE) as u64;
 
 // The room for the root between header and metadata.
-const MAX_ROOT: u64 = 16257;
+const MAX_ROOT: u64 = (MAX_INITIAL_BYTES - HEADER_SIZE) as u64;
 
-// How many stores there are for a root, metadata, data and leaves of so many bytes.
-pub fn total(root: u64, metadata: u64, tiles: u64, leaves: u64) -> Totalled
-    ensures { said_total result ≡ totalling root metadata tiles leaves }
+// How many stores there are for sections of so many bytes.
+#[tactic(auto, unfolding(crate::specs::Publish::totalling))]
+pub fn total(lengths: Lengths) -> Result<u64, Refusal>
+    ensures { said_total result ≡ totalling lengths.root lengths.metadata lengths.tiles lengths.leaves }
 {
-    let a = 0xffff_ffff_ffff_ffff - FEWEST;
-    if metadata > a {
-        return Totalled::Refused(Refusal::SumTooLarge);
+    let stores = FEWEST
+        .checked_add(lengths.metadata)
+        .and_then(|n| n.checked_add(lengths.tiles))
+        .and_then(|n| n.checked_add(lengths.leaves))
+        .and_then(|n| n.checked_add(lengths.root))
+        .ok_or(Refusal::SumTooLarge)?;
+    if lengths.root > MAX_ROOT {
+        return Err(Refusal::RangeOutside);
     }
-    let b = a - metadata;
-    if tiles > b {
-        return Totalled::Refused(Refusal::SumTooLarge);
-    }
-    let c = b - tiles;
-    if leaves > c {
-        return Totalled::Refused(Refusal::SumTooLarge);
-    }
-    let d = c - leaves;
-    if root > d {
-        return Totalled::Refused(Refusal::SumTooLarge);
-    }
-    if root > MAX_ROOT {
-        return Totalled::Refused(Refusal::RangeOutside);
-    }
-    Totalled::Stores(FEWEST + metadata + tiles + leaves + root)
+    Ok(stores)
 }
 
-// The new position, for an archive of `size` bytes that takes so many stores, in a destination of `room` bytes.
-fn advance(size: u64, stores: u64, room: u64, position: u64, budget: u64) -> Published
-    ensures { said_published result ≡ advancing size stores room position budget }
-{
-    if room < size {
-        return Published::Refused(Refusal::RoomTooShort);
-    }
-    if position > stores {
-        return Published::Refused(Refusal::RangeOutside);
-    }
-    if budget < stores - position {
-        return Published::Position(position + budget);
-    }
-    Published::Position(stores)
-}
-
-// All tests, in order, and the new position.
+// All tests, in order, and the new position, in a destination of `room` bytes.
+#[tactic(auto, unfolding(crate::specs::Publish::publishing, crate::specs::Publish::totalling))]
 fn admit(
     settings: Settings,
-    root: u64,
-    metadata: u64,
-    tiles: u64,
-    leaves: u64,
+    lengths: Lengths,
     room: u64,
     position: u64,
     budget: u64,
-) -> Published
-    ensures { said_published result ≡ publishing settings root metadata tiles leaves room position budget }
+) -> Result<u64, Refusal>
+    ensures { said_published result ≡ publishing settings lengths.root lengths.metadata lengths.tiles lengths.leaves room position budget }
 {
     if settings.tile_compression > MAX_COMPRESSION {
-        return Published::Refused(Refusal::InvalidCompression);
+        return Err(Refusal::InvalidCompression);
     }
     if settings.tile_type > MAX_TILE_TYPE {
-        return Published::Refused(Refusal::InvalidTileType);
+        return Err(Refusal::InvalidTileType);
     }
-    match total(root, metadata, tiles, leaves) {
-        Totalled::Stores(stores) => {
-            let size = (MAX_INITIAL_BYTES as u64) + metadata + tiles + leaves;
-            advance(size, stores, room, position, budget)
-        }
-        Totalled::Refused(r) => Published::Refused(r),
+    let stores = total(lengths)?;
+    let size = MAX_INITIAL_BYTES as u64 + lengths.metadata + lengths.tiles + lengths.leaves;
+    if room < size {
+        return Err(Refusal::RoomTooShort);
     }
+    let ahead = stores.checked_sub(position).ok_or(Refusal::RangeOutside)?;
+    Ok(position + budget.min(ahead))
 }
 
-// The stores of a publication that is accepted, from a position on.
-fn fill(
-    settings: Settings,
-    counts: Counts,
-    root: &[u8],
-    metadata: &[u8],
-    tiles: &[u8],
-    leaves: &[u8],
-    dest: &mut [u8],
-    position: usize,
-    budget: usize,
-)
-    requires { Accepted settings (length root.now) (length metadata.now) (length tiles.now) (length leaves.now) (length dest.old) }
-    ensures { dest.new ≡ stored_from position budget (stores settings counts root.now metadata.now tiles.now leaves.now) dest.old }
+// The stores of a publication that is accepted, as many as the call covers.
+#[tactic(auto, unfolding(header::specs::Header::write_header, crate::specs::Plan::header_for))]
+fn fill(settings: Settings, counts: Counts, parts: &Parts, dest: &mut [u8], mut cut: Cut)
+    requires { over_lengths parts.now (Accepted settings) (length dest.old) }
+    ensures { dest.new ≡ stored_by cut (over_parts parts.now (stores settings counts)) dest.old }
 {
-    let header = bytes_of(heading(
-        settings,
-        counts,
-        root.len() as u64,
-        metadata.len() as u64,
-        tiles.len() as u64,
-        leaves.len() as u64,
-    ));
-    let rest = fill_behind(metadata, tiles, leaves, dest, position, budget);
-    fill_front(&header, root, dest, rest.skip, rest.left);
+    let header = bytes_of(heading(settings, counts, parts.lengths()));
+    fill_behind(parts, dest, &mut cut);
+    fill_front(&header, parts.root, dest, &mut cut);
 }
 
 // The next stores from a position on, as many as the budget and the plan allow.
+#[tactic(auto, using(crate::proofs::Admitted::admitted))]
 pub fn publish(
     settings: Settings,
     counts: Counts,
-    root: &[u8],
-    metadata: &[u8],
-    tiles: &[u8],
-    leaves: &[u8],
+    parts: &Parts,
     dest: &mut [u8],
     position: u64,
     budget: u64,
-) -> Published
-    ensures answer { said_published result ≡ publishing settings (length root.now) (length metadata.now) (length tiles.now) (length leaves.now) (length dest.old) position budget }
-    ensures bytes { dest.new ≡ afterwards (publishing settings (length root.now) (length metadata.now) (length tiles.now) (length leaves.now) (length dest.old) position budget) dest.old (λ _. stored_from position budget (stores settings counts root.now metadata.now tiles.now leaves.now) dest.old) }
+) -> Result<u64, Refusal>
+    ensures answer { said_published result ≡ over_lengths parts.now (publishing settings) (length dest.old) position budget }
+    ensures bytes { dest.new ≡ afterwards (over_lengths parts.now (publishing settings) (length dest.old) position budget) dest.old (λ _. stored_from position budget (over_parts parts.now (stores settings counts)) dest.old) }
 {
-    let said = admit(
+    let next = admit(
         settings,
-        root.len() as u64,
-        metadata.len() as u64,
-        tiles.len() as u64,
-        leaves.len() as u64,
+        parts.lengths(),
         dest.len() as u64,
         position,
         budget,
-    );
-    let Published::Position(_) = said else {
-        return said;
+    )?;
+    let cut = Cut {
+        skip: position as usize,
+        left: budget as usize,
     };
-    fill(
-        settings,
-        counts,
-        root,
-        metadata,
-        tiles,
-        leaves,
-        dest,
-        position as usize,
-        budget as usize,
-    );
-    said
+    fill(settings, counts, parts, dest, cut);
+    Ok(next)
 }

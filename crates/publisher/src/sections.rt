@@ -1,9 +1,11 @@
-// The stores of one call, by sections: each is one plain loop over the part of it that the call covers.
+// The stores of one call, by sections: each is one fill or copy of the part of it that the call covers.
 ghost use Rattle.std.specs.Prelude.{◌≡◌, ◌+◌, ◌-◌, ◌≤◌, min, length};
-ghost use Rattle.publisher.specs.Plan.{upward, stored_from, zeros, behind, front};
-ghost use Rattle.publisher.specs.Cuts.{past};
+ghost use Rattle.publisher.specs.Plan.{upward, zeros, behind, front};
+ghost use Rattle.publisher.specs.Cuts.{Done, past};
 
+use crate::Parts;
 use header::{HEADER_SIZE, MAX_INITIAL_BYTES};
+use std::ops::Range;
 
 // Where a call stands before a section: how many of the stores ahead it skips, and how many it may still do.
 #[derive(Clone, Copy)]
@@ -12,86 +14,52 @@ pub(crate) struct Cut {
     pub(crate) left: usize,
 }
 
-// How far a is above b, 0 where it is not.
-fn less(a: usize, b: usize) -> usize
-    ensures { result ≡ a - b }
-{
-    if a < b { 0 } else { a - b }
-}
-
-fn least(a: usize, b: usize) -> usize
-    ensures { result ≡ min a b }
-{
-    if a < b { a } else { b }
+impl Cut {
+    // The stores that the call does of a section of n, which then lies behind it.
+    #[tactic(auto, unfolding(crate::specs::Cuts::past))]
+    fn pass(&mut self, n: usize) -> Range<usize>
+        ensures start { result.start ≡ min self.old.skip n }
+        ensures end { result.end ≡ min self.old.skip n + min self.old.left (n - self.old.skip) }
+        ensures behind { self.new ≡ past n self.old }
+    {
+        let start = self.skip.min(n);
+        let count = self.left.min(n - start);
+        self.skip -= start;
+        self.left -= count;
+        start..start + count
+    }
 }
 
 // The section that puts src's bytes upward from a place.
-fn section(src: &[u8], dest: &mut [u8], place: usize, skip: usize, left: usize) -> Cut
+fn section(src: &[u8], dest: &mut [u8], place: usize, cut: &mut Cut)
     requires { place + length src.now ≤ length dest.old }
-    ensures value { result ≡ past (length src.now) skip left }
-    ensures dest_after { dest.new ≡ stored_from skip left (upward place src.now) dest.old }
+    ensures { Done (upward place src.now) cut.old dest.old cut.new dest.new }
 {
-    let n = src.len();
-    let count = least(left, less(n, skip));
-    let mut k: usize = 0;
-    while k < count {
-        let j = skip + k;
-        dest[place + j] = src[j];
-        k += 1;
-    }
-    Cut {
-        skip: less(skip, n),
-        left: left - count,
-    }
-}
-
-// The zeros before the metadata.
-fn clear(dest: &mut [u8], skip: usize, left: usize) -> Cut
-    requires { 16384 ≤ length dest.old }
-    ensures value { result ≡ past 16384 skip left }
-    ensures dest_after { dest.new ≡ stored_from skip left (upward 0 (zeros 16384)) dest.old }
-{
-    let count = least(left, less(MAX_INITIAL_BYTES, skip));
-    let mut k: usize = 0;
-    while k < count {
-        dest[skip + k] = 0;
-        k += 1;
-    }
-    Cut {
-        skip: less(skip, MAX_INITIAL_BYTES),
-        left: left - count,
-    }
+    let part = cut.pass(src.len());
+    dest[place + part.start..place + part.end].copy_from_slice(&src[part]);
 }
 
 // The zeros, metadata, data and leaves.
-pub(crate) fn fill_behind(
-    metadata: &[u8],
-    tiles: &[u8],
-    leaves: &[u8],
-    dest: &mut [u8],
-    skip: usize,
-    left: usize,
-) -> Cut
-    requires { 16384 + length metadata.now + length tiles.now + length leaves.now ≤ length dest.old }
-    ensures value { result ≡ past (16384 + length metadata.now + length tiles.now + length leaves.now) skip left }
-    ensures dest_after { dest.new ≡ stored_from skip left (behind metadata.now tiles.now leaves.now) dest.old }
+pub(crate) fn fill_behind(parts: &Parts, dest: &mut [u8], cut: &mut Cut)
+    requires { 16384 + length parts.now.metadata.now + length parts.now.tiles.now + length parts.now.leaves.now ≤ length dest.old }
+    ensures { Done (behind parts.now.metadata.now parts.now.tiles.now parts.now.leaves.now) cut.old dest.old cut.new dest.new }
 {
-    let at_tiles = MAX_INITIAL_BYTES + metadata.len();
-    let at_leaves = at_tiles + tiles.len();
-    let a = clear(dest, skip, left);
-    let b = section(metadata, dest, MAX_INITIAL_BYTES, a.skip, a.left);
-    let c = section(tiles, dest, at_tiles, b.skip, b.left);
-    section(leaves, dest, at_leaves, c.skip, c.left)
+    let at_tiles = MAX_INITIAL_BYTES + parts.metadata.len();
+    let at_leaves = at_tiles + parts.tiles.len();
+    dest[cut.pass(MAX_INITIAL_BYTES)].fill(0);
+    section(parts.metadata, dest, MAX_INITIAL_BYTES, cut);
+    section(parts.tiles, dest, at_tiles, cut);
+    section(parts.leaves, dest, at_leaves, cut);
 }
 
 // The root, then header bytes 1 to 126, then header byte 0, which makes the archive one.
-pub(crate) fn fill_front(header: &[u8; 127], root: &[u8], dest: &mut [u8], skip: usize, left: usize)
+pub(crate) fn fill_front(header: &[u8; HEADER_SIZE], root: &[u8], dest: &mut [u8], cut: &mut Cut)
     requires root_len_bound { length root.now ≤ 16257 }
     requires in_bounds { 16384 ≤ length dest.old }
-    ensures { dest.new ≡ stored_from skip left (front header.now root.now) dest.old }
+    ensures { Done (front header.now root.now) cut.old dest.old cut.new dest.new }
 {
-    let head = &header[..];
-    let a = section(root, dest, HEADER_SIZE, skip, left);
-    let b = section(&head[1..], dest, 1, a.skip, a.left);
-    section(&head[0..1], dest, 0, b.skip, b.left);
+    let (first, rest) = header.split_at(1);
+    section(root, dest, HEADER_SIZE, cut);
+    section(rest, dest, 1, cut);
+    section(first, dest, 0, cut);
 }

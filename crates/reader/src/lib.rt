@@ -2,7 +2,6 @@
 #![tactic(auto)]
 
 use directory::Offset;
-use refusal::Refusal;
 
 mod descent;
 mod ranges;
@@ -29,24 +28,4 @@ pub struct Sections {
     pub root: Section,
     pub leaves: Section,
     pub tiles: Section,
-}
-
-#[derive(Clone, Copy)]
-pub enum Opened {
-    Sections(Sections),
-    Refused(Refusal),
-}
-
-// The range of an entry in its section.
-#[derive(Clone, Copy)]
-pub enum Ranged {
-    At(Located),
-    Refused(Refusal),
-}
-
-#[derive(Clone, Copy)]
-pub enum LookupAnswer {
-    Found(Located),
-    Absent,
-    Refused(Refusal),
 }

@@ -2,7 +2,10 @@
 use Prim.Native.Nat.{ℕ, zero, suc, ◌-◌}
 use mathlib.Core.Path.{◌≡◌, refl, ap, sym, ◌∙◌}
 use mathlib.Core.List.{List, [], ◌∷◌}
+use Rattle.std.specs.Prelude.{Result, Ok, Err}
+use Rattle.refusal.specs.Out.{Out, ok, bad}
 use Rattle.refusal.specs.Number.{number_of}
+use Rattle.refusal.specs.Said.{said}
 use Rattle.refusal.specs.declared.Refusal.{Refusal}
 use Rattle.refusal.specs.declared.Refusal.TheVariants as r
 
@@ -65,3 +68,15 @@ numbered r.TooManyEntries = refl
 
 pub one_number : (a b : Refusal) → number_of a ≡ number_of b → a ≡ b
 one_number = one-to-one number_of refusal_of numbered
+
+-- an answer whose value can be told from how it is seen can be told from what it says
+pub one-said : {A B : Type 0} (f : A → B) (g : B → A) → ((a : A) → g (f a) ≡ a) → (a b : Result A Refusal) → said f a ≡ said f b → a ≡ b
+one-said {A} {B} f g undone = one-to-one (said f) told back
+  where
+    told : Out B → Result A Refusal
+    told (ok b) = Ok (g b)
+    told (bad n) = Err (refusal_of n)
+
+    back : (a : Result A Refusal) → told (said f a) ≡ a
+    back (Ok a) = ap Ok (undone a)
+    back (Err r) = ap Err (numbered r)

@@ -1,2 +1,3 @@
 pub mod Out
 pub mod Number
+pub mod Said

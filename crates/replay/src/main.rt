@@ -2,64 +2,36 @@
 // says how both were made.
 #![tactic(auto)]
 
-ghost use Rattle.std.specs.Prelude.{◌≤◌, ◌<◌, length, IfOk};
+ghost use Rattle.std.specs.Prelude.{◌<◌, length, IfSome};
 
 use std::io::{self, Read};
 
 mod answers;
-mod print;
 
-fn size(low: u8, high: u8) -> usize
-    ensures { result < 65536 }
-{
-    low as usize + 256 * (high as usize)
-}
+// How much of a list is read.
+const MOST: u64 = 262144;
 
-// The input at a place: its kind, its length in two bytes, lowest first, and so many bytes. Answers the place behind it.
-fn replay_one(rt: &impl Print, list: &[u8], at: usize) -> io::Result<usize>
-    requires { at < length list.now }
-    ensures { IfOk result (λ next. (at < next) × (next ≤ length list.now)) }
+// The first input of a list, and the list behind it. An input is its kind, its length in two bytes, lowest first, and so
+// many bytes.
+fn split_input(list: &[u8]) -> Option<(u8, &[u8], &[u8])>
+    ensures { IfSome result (λ (kind, input, behind). length behind.now < length list.now) }
 {
-    let rest = list.len() - at;
-    if rest < 3 {
-        return Ok(list.len());
-    }
-    let n = size(list[at + 1], list[at + 2]);
-    if rest - 3 < n {
-        return Ok(list.len());
-    }
-    let from = at + 3;
-    let to = from + n;
-    answers::answer(rt, list[at], &list[from..to])?;
-    Ok(to)
+    let (&[kind, low, high], rest) = list.split_first_chunk::<3>()?;
+    let (input, behind) = rest.split_at_checked(usize::from(u16::from_le_bytes([low, high])))?;
+    Some((kind, input, behind))
 }
 
 fn replay(rt: &impl Print, list: &[u8]) -> io::Result<()> {
-    let mut at: usize = 0;
-    while at < list.len() {
-        at = replay_one(rt, list, at)?;
+    let mut rest = list;
+    while let Some((kind, input, behind)) = split_input(rest) {
+        answers::answer(rt, kind, input)?;
+        rest = behind;
     }
     Ok(())
 }
 
-// Reads until the buffer is full or the input ends, and answers how many bytes of it are read.
-fn read_full(rt: &impl Input, buffer: &mut [u8]) -> io::Result<usize>
-    ensures { IfOk result (λ n. n ≤ length buffer.new) }
-{
-    let mut input = rt.reader();
-    let mut done: usize = 0;
-    while done < buffer.len() {
-        let n = input.read(&mut buffer[done..])?;
-        if n == 0 {
-            break;
-        }
-        done += n;
-    }
-    Ok(done)
-}
-
 fn main(rt: HostRuntime) -> io::Result<()> {
-    let mut list = [0u8; 262144];
-    let n = read_full(&rt, &mut list)?;
-    replay(&rt, &list[..n])
+    let mut list = Vec::new(rt.alloc());
+    rt.reader().take(MOST).read_to_end(&mut list)?;
+    replay(&rt, &list)
 }

@@ -1,65 +1,59 @@
 -- Search in stores: what each part tells of the whole. Assumes nothing.
-use Prim.Native.Nat.{ℕ, ◌-◌, ◌≤◌, ◌<◌}
+use Prim.Native.Nat.{ℕ, suc, ◌≤◌}
 use mathlib.Core.Path.{◌≡◌, sym, ◌∙◌}
+use mathlib.Core.Bool.{true, false}
 use mathlib.Core.List.{List}
 use native.Mathlib.Omega.{arith}
-use borrow.Author.Tests.{le-leb, lt-leb}
-use lib.ListN.{get_or}
-use Rattle.refusal.specs.Out.{Out, ok, bad, ◌>>=◌}
+use borrow.Author.Tests.{le-leb}
+use lib.Dec.{leb}
+use lib.ListN.{get_or, length, take}
+use Rattle.std.specs.List.Sorted.{IsPartitionPoint, IsPartitionedBy}
+use Rattle.refusal.specs.Out.{Out, ok, ◌>>=◌, need}
 use Rattle.refusal.proofs.OutLaws.{need-bind}
-use Rattle.tile.specs.Answers.{max_id}
-use Rattle.directory.specs.Search.{absent, counting, find_stored, search, stored}
+use Rattle.tile.specs.Answers.{is_id, max_id}
+use Rattle.directory.specs.Entries.{Valid}
+use Rattle.directory.specs.Search.{absent, counting, find_stored, search, shortest, stored}
 use Rattle.directory.specs.Stores.{checked_all}
 use Rattle.directory.proofs.Checks.{check_sound}
-use Rattle.directory.proofs.Counting.{counting-sound, in-each}
+use Rattle.directory.proofs.Counting.{counting-sound}
 use Rattle.directory.proofs.Slots.{check-all}
 use Rattle.search.specs.Answers.{answering}
-use Rattle.search.specs.Halving.{Between, Holding}
 use Rattle.search.proofs.Hits.{answered}
-use Rattle.search.proofs.Last.{last_none, last_some}
+use Rattle.search.proofs.Last.{below, last_none, last_some, parted}
 
--- ---- the entries, searched
-
-module _ (n : ℕ) (a b l o : List ℕ) (t : ℕ) (h : Holding n a b l o) {r : ℕ} (w : Between n a t r r) where
-  pub none_found : r ≡ 0 → ok absent ≡ ok (search (stored n a b l o) t)
-  unfolding search
-  none_found z = rw (last_none n a b l o t r h w z)
-
-  pub one_found : 0 < r → t ≤ max_id → answering (get_or a (r - 1) 0) (get_or b (r - 1) 0) (get_or l (r - 1) 0) (get_or o (r - 1) 0) t ≡ ok (search (stored n a b l o) t)
-  unfolding search
-  one_found p near = answered _ _ _ _ t (omega (arith, w.below p)) ∙ (rw (last_some n a b l o t r h w p))
-
--- ---- the whole
-
-module _ (count : ℕ) (a b l o : List ℕ) where
+module _ (n : ℕ) (a b l o : List ℕ) where
   -- the answer to the checks of all entries
   abbrev checks : Out ℕ
-  checks = counting count a b l o (checked_all 0 (stored count a b l o))
+  checks = counting n a b l o (checked_all 0 (stored n a b l o))
 
-  pub holds : {next : ℕ} → ok next ≡ checks → Holding count a b l o
-  holds {next} j =
-      let s = counting-sound count a b l o (checked_all 0 (stored count a b l o)) next (sym j) in
-      let f = in-each count a b l o s.1 in
-      record {
-        in_ids = f.0;
-        in-runs = f.1;
-        in_lens = f.2;
-        in-offs = f.3;
-        valid = (check_sound {A = ℕ} 0 (stored count a b l o) (ok 0) 0 (rw (check-all, s.2))).0;
-      }
+  pub find_steps : (t : ℕ) → find_stored n a b l o t ≡ need (is_id t) 7 (checks >>= λ _. ok (search (stored n a b l o) t))
+  unfolding find_stored
+  find_steps t = rw check-all (sym (simp need-bind))
 
-  module _ (t : ℕ) where
-    pub no_target : max_id < t → bad 7 ≡ find_stored count a b l o t
-    unfolding find_stored
-    no_target h = rw (lt-leb t max_id h)
+  module _ {next : ℕ} (j : ok next ≡ checks) where
+    fits : n ≤ shortest a b l o
+    fits = (counting-sound n a b l o (checked_all 0 (stored n a b l o)) next (sym j)).1
 
-    module _ (near : t ≤ max_id) where
-      checks-first : find_stored count a b l o t ≡ checks >>= λ _. ok (search (stored count a b l o) t)
-      unfolding find_stored
-      checks-first = rw (le-leb t max_id near, check-all) (sym (simp need-bind))
+    valid : Valid 0 (stored n a b l o)
+    valid =
+        let s = counting-sound n a b l o (checked_all 0 (stored n a b l o)) next (sym j) in
+        (check_sound {A = ℕ} 0 (stored n a b l o) (ok 0) 0 (rw (check-all, s.2))).0
 
-      pub no-entries : {q : ℕ} → bad q ≡ checks → bad q ≡ find_stored count a b l o t
-      no-entries j = rw (checks-first, ← j)
+    -- what is asked of the ids that are halved
+    pub halved : (t : ℕ) → IsPartitionedBy (λ id. leb id t) (take n a)
+    halved t = parted n a b l o t fits valid
 
-      pub searched : {next : ℕ} → ok next ≡ checks → ok (search (stored count a b l o) t) ≡ find_stored count a b l o t
-      searched j = rw (checks-first, ← j)
+    -- and what is found there
+    module _ (t : ℕ) (near : t ≤ max_id) (k : ℕ) (w : IsPartitionPoint (λ id. leb id t ≡ true) (λ id. leb id t ≡ false) (take n a) k) where
+      found : find_stored n a b l o t ≡ ok (search (stored n a b l o) t)
+      found = rw (find_steps t, le-leb t max_id near, ← j)
+
+      pub none_found : k ≡ 0 → ok absent ≡ find_stored n a b l o t
+      unfolding search
+      none_found z = sym (rw (found, last_none n a b l o t fits valid k w z))
+
+      pub one_found : (i : ℕ) → k ≡ suc i → k ≤ length (take n a) → answering (get_or a i 0) (get_or b i 0) (get_or l i 0) (get_or o i 0) t ≡ find_stored n a b l o t
+      unfolding search
+      one_found i p m =
+          let at : get_or a i 0 ≤ t = below n a b l o t fits valid k w i p m in
+          answered _ _ _ _ t (omega arith) ∙ sym (rw (found, last_some n a b l o t fits valid k w i p m))

@@ -3,18 +3,13 @@ use Prim.Native.Nat.{ℕ, ◌+◌, ◌-◌, ◌≤◌, ◌<◌}
 use mathlib.Core.Path.{◌≡◌, sym}
 use mathlib.Core.Option.{some}
 use native.Mathlib.Omega.{arith}
-use borrow.Author.Tests.{eq-eqb, le-leb, le-ltb, leb-true, lt-ltb, ne_eqb}
+use borrow.Author.Tests.{eq-eqb, le-leb, le-ltb, lt-ltb, ne_eqb}
 use Rattle.refusal.specs.Out.{ok, bad, ◌>>=◌}
 use Rattle.refusal.proofs.OutLaws.{need-bind, need-ok, ok-is}
 use Rattle.tile.specs.Answers.{is_id, max_id, new_id}
 use Rattle.directory.specs.Entries.{entry}
 use Rattle.directory.specs.Search.{absent, hit, leaf, tile}
 use Rattle.search.specs.Answers.{answering}
-
--- a number that is a tile's id
-pub is-id : (id : ℕ) {i : ℕ} → ok i ≡ new_id id → id ≤ max_id
-unfolding new_id
-is-id id {i} e = leb-true id max_id (need-ok (is_id id) 7 (ok id) i (sym e)).0
 
 module _ (id run len off t : ℕ) where
   named : answering id run len off t ≡ new_id id >>= λ _. ok (hit t (some (entry id run len off)))
@@ -43,3 +38,6 @@ module _ (id run len off t : ℕ) where
 
       pub as-absent : id + run ≤ t → ok absent ≡ answering id run len off t
       as-absent h = rw (named, ← e, ne_eqb run 0 covers, le-ltb (t - id) run (omega arith))
+
+-- what `answer` goes by
+pub ruleset hits = (as-leaf, as-tile, as-absent, no-id)

@@ -1,5 +1,4 @@
 pub mod Covers
-pub mod Halving
 pub mod Last
 pub mod Hits
 pub mod Finding

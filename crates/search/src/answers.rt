@@ -3,31 +3,26 @@ ghost use Rattle.std.specs.Prelude.{◌≡◌};
 ghost use Rattle.directory.specs.Answers.{said_found};
 ghost use Rattle.search.specs.Answers.{answering};
 
-use directory::{DirEntry, Found, Offset, wide};
-use tile::{IdAnswer, TileId};
+use directory::{DirEntry, Found, Row};
+use refusal::Refusal;
+use tile::TileId;
 
-// The entry is the last whose id is at most the target: a search sees to that, so it is not tested here.
-pub fn answer(id: u64, run: u32, length: u32, offset: Offset, target: u64) -> Found
-    ensures { said_found result ≡ answering id run length offset.0 target }
+// The row is the last whose id is at most the target: a search sees to that, so it is not tested here.
+#[tactic(auto, using(crate::proofs::Hits::hits))]
+pub fn answer(row: Row, target: u64) -> Result<Found, Refusal>
+    ensures { said_found result ≡ answering row.id row.run_length row.length row.offset.0 target }
 {
-    match TileId::new(id) {
-        IdAnswer::Id(tile_id) => {
-            let e = DirEntry {
-                tile_id,
-                run_length: run,
-                length,
-                offset,
-            };
-            if run == 0 {
-                return Found::Leaf(e);
-            }
-            if target < id + wide(run) {
-                return Found::Tile(e);
-            }
-            return Found::Absent;
-        }
-        IdAnswer::Refused(r) => {
-            return Found::Refused(r);
-        }
+    let e = DirEntry {
+        tile_id: TileId::new(row.id)?,
+        run_length: row.run_length,
+        length: row.length,
+        offset: row.offset,
+    };
+    if row.run_length == 0 {
+        return Ok(Found::Leaf(e));
     }
+    if target.saturating_sub(row.id) < u64::from(row.run_length) {
+        return Ok(Found::Tile(e));
+    }
+    Ok(Found::Absent)
 }

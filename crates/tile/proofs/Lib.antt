@@ -1,4 +1,3 @@
-pub mod Table
 pub mod Curve
 pub mod Zooms
 pub mod Ids

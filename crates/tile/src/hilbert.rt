@@ -3,7 +3,9 @@ ghost use Rattle.std.specs.Prelude.{◌≡◌, cond, suc, ◌+◌, ◌*◌, ◌^
 ghost use Rattle.tile.specs.Tile.{index, place, placed};
 ghost use Rattle.tile.specs.Answers.{is_coord_lem};
 
-fn power(n: u32) -> u32
+use crate::TileCoord;
+
+fn power(n: u8) -> u32
     requires { n < 32 }
     ensures { result ≡ 2 ^ n }
 {
@@ -13,17 +15,7 @@ fn power(n: u32) -> u32
 pub(crate) fn is_coord(z: u8, x: u32, y: u32) -> bool
     ensures { result ≡ is_coord_lem z x y }
 {
-    if 31 < z {
-        return false;
-    }
-    let side = power(z as u32);
-    if side <= x {
-        return false;
-    }
-    if side <= y {
-        return false;
-    }
-    true
+    z <= TileCoord::MAX_ZOOM && x < power(z) && y < power(z)
 }
 
 // One of two numbers that are both at hand: no branch on a tile's bits, which no processor foresees.
@@ -36,10 +28,11 @@ fn pick(test: bool, yes: u32, no: u32) -> u32
 fn rank(right: bool, upper: bool) -> u64
     ensures { (result ≡ cond right (cond upper 2 3) (cond upper 1 0)) × (result < 4) }
 {
-    if right {
-        if upper { 2 } else { 3 }
-    } else {
-        if upper { 1 } else { 0 }
+    match (right, upper) {
+        (false, false) => 0,
+        (false, true) => 1,
+        (true, true) => 2,
+        (true, false) => 3,
     }
 }
 
@@ -51,35 +44,37 @@ struct Walk {
     y: u32,
 }
 
-// One pair of bits, those at i.
-fn step(w: Walk, i: u32) -> Walk
-    requires { (i < 31) × (w.h < 4 ^ 31) × (w.x < 2 ^ (i + 1)) × (w.y < 2 ^ (i + 1)) }
-    ensures { (result.x < 2 ^ i) × (result.y < 2 ^ i) × (result.h * 4 ^ i + index i result.x result.y ≡ w.h * 4 ^ suc i + index (suc i) w.x w.y) }
-{
-    let h = w.h;
-    let wx = w.x;
-    let wy = w.y;
-    let half = power(i);
-    let right = half <= wx;
-    let upper = half <= wy;
-    let x = wx - pick(right, half, 0);
-    let y = wy - pick(upper, half, 0);
-    Walk {
-        h: h * 4 + rank(right, upper),
-        x: pick(upper, x, pick(right, half - 1 - y, y)),
-        y: pick(upper, y, pick(right, half - 1 - x, x)),
+impl Walk {
+    // One pair of bits, those at i.
+    fn step(self, i: u8) -> Walk
+        requires bit { i < 31 }
+        requires gathered { self.h < 4 ^ 31 }
+        requires x { self.x < 2 ^ (i + 1) }
+        requires y { self.y < 2 ^ (i + 1) }
+        ensures x { result.x < 2 ^ i }
+        ensures y { result.y < 2 ^ i }
+        ensures same { result.h * 4 ^ i + index i result.x result.y ≡ self.h * 4 ^ suc i + index (suc i) self.x self.y }
+    {
+        let half = power(i);
+        let right = half <= self.x;
+        let upper = half <= self.y;
+        let x = self.x - pick(right, half, 0);
+        let y = self.y - pick(upper, half, 0);
+        Walk {
+            h: self.h * 4 + rank(right, upper),
+            x: pick(upper, x, pick(right, half - 1 - y, y)),
+            y: pick(upper, y, pick(right, half - 1 - x, x)),
+        }
     }
 }
 
-pub(crate) fn index_of(z: u32, x: u32, y: u32) -> u64
+pub(crate) fn index_of(z: u8, x: u32, y: u32) -> u64
     requires { (z ≤ 31) × (x < 2 ^ z) × (y < 2 ^ z) }
     ensures { result ≡ index z x y }
 {
-    let mut w = Walk { h: 0, x: x, y: y };
-    let mut i = z;
-    while 0 < i {
-        i -= 1;
-        w = step(w, i);
+    let mut w = Walk { h: 0, x, y };
+    for i in (0..z).rev() {
+        w = w.step(i);
     }
     w.h
 }
@@ -90,31 +85,35 @@ pub(crate) struct Spot {
     pub(crate) y: u32,
 }
 
-// The pair with one more bit, at i, whose rank is d.
-fn unstep(p: Spot, i: u32, d: u64) -> Spot
-    requires { (i < 31) × (p.x < 2 ^ i) × (p.y < 2 ^ i) × (d < 4) }
-    ensures { (result.x, result.y) ≡ placed i d (p.x, p.y) }
-{
-    let half = power(i);
-    let straight = d % 3 != 0;
-    let last = d == 3;
-    let x = pick(last, half - 1 - p.x, p.x);
-    let y = pick(last, half - 1 - p.y, p.y);
-    Spot {
-        x: pick(straight, x, y) + pick(2 <= d, half, 0),
-        y: pick(straight, y, x) + pick(straight, half, 0),
+impl Spot {
+    // The pair with one more bit, at i, whose rank is d.
+    fn unstep(self, i: u8, d: u64) -> Spot
+        requires bit { i < 31 }
+        requires x { self.x < 2 ^ i }
+        requires y { self.y < 2 ^ i }
+        requires rank { d < 4 }
+        ensures { (result.x, result.y) ≡ placed i d (self.x, self.y) }
+    {
+        let half = power(i);
+        let straight = d % 3 != 0;
+        let last = d == 3;
+        let x = pick(last, half - 1 - self.x, self.x);
+        let y = pick(last, half - 1 - self.y, self.y);
+        Spot {
+            x: pick(straight, x, y) + pick(2 <= d, half, 0),
+            y: pick(straight, y, x) + pick(straight, half, 0),
+        }
     }
 }
 
-pub(crate) fn place_of(z: u32, h: u64) -> Spot
+#[tactic(auto, using(crate::proofs::Curve::place_up), unfolding(crate::specs::Tile::place))]
+pub(crate) fn place_of(z: u8, h: u64) -> Spot
     requires { (z ≤ 31) × (h < 4 ^ z) }
     ensures { (result.x, result.y) ≡ place z h }
 {
     let mut p = Spot { x: 0, y: 0 };
-    let mut i: u32 = 0;
-    while i < z {
-        p = unstep(p, i, (h >> (2 * i)) % 4);
-        i += 1;
+    for i in 0..z {
+        p = p.unstep(i, (h >> (2 * i)) % 4);
     }
     p
 }

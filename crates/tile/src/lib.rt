@@ -4,6 +4,7 @@
 ghost use Rattle.std.specs.Prelude.{◌≡◌};
 ghost use Rattle.tile.specs.Answers.{new_coord, new_id, said_coord, said_id, said_zoom, to_id, to_coord_lem, to_zoom};
 
+use pyramid::Level;
 use refusal::Refusal;
 
 mod hilbert;
@@ -12,44 +13,28 @@ mod pyramid;
 pub use pyramid::PYRAMID_SIZE_BY_ZOOM;
 
 // The fields are private, so that what `new` refused is not made elsewhere.
-#[derive(Clone, Copy)]
+// Stays: no invariant, since it narrows what public functions take, whose clauses (`to_coord_lem`) know any value.
+#[derive(Clone, Copy, Debug, PartialEq, Eq)]
 pub struct TileCoord {
     z: u8,
     x: u32,
     y: u32,
 }
 
-#[derive(Clone, Copy)]
+#[derive(Clone, Copy, Debug, PartialEq, Eq, PartialOrd, Ord)]
 pub struct TileId(u64);
-
-#[derive(Clone, Copy)]
-pub enum CoordAnswer {
-    Coord(TileCoord),
-    Refused(Refusal),
-}
-
-#[derive(Clone, Copy)]
-pub enum IdAnswer {
-    Id(TileId),
-    Refused(Refusal),
-}
-
-#[derive(Clone, Copy)]
-pub enum ZoomAnswer {
-    Zoom(u8),
-    Refused(Refusal),
-}
 
 impl TileCoord {
     pub const MAX_ZOOM: u8 = 31;
 
-    pub fn new(z: u8, x: u32, y: u32) -> CoordAnswer
+    #[tactic(auto, unfolding(crate::specs::Answers::new_coord))]
+    pub fn new(z: u8, x: u32, y: u32) -> Result<TileCoord, Refusal>
         ensures { said_coord result ≡ new_coord z x y }
     {
         if hilbert::is_coord(z, x, y) {
-            CoordAnswer::Coord(TileCoord { z, x, y })
+            Ok(TileCoord { z, x, y })
         } else {
-            CoordAnswer::Refused(Refusal::InvalidCoordinate)
+            Err(Refusal::InvalidCoordinate)
         }
     }
 
@@ -71,30 +56,26 @@ impl TileCoord {
         self.y
     }
 
-    pub fn to_id(self) -> IdAnswer
+    #[tactic(auto, using(crate::proofs::Ids::id_below), unfolding(crate::specs::Answers::new_coord, crate::specs::Answers::to_id, crate::specs::Tile::tile_id_lem))]
+    pub fn to_id(self) -> Result<TileId, Refusal>
         ensures { said_id result ≡ to_id self.z self.x self.y }
     {
-        let z = self.z;
-        let x = self.x;
-        let y = self.y;
-        if hilbert::is_coord(z, x, y) {
-            IdAnswer::Id(TileId(pyramid::base_of(z) + hilbert::index_of(z as u32, x, y)))
-        } else {
-            IdAnswer::Refused(Refusal::InvalidCoordinate)
-        }
+        let TileCoord { z, x, y } = TileCoord::new(self.z, self.x, self.y)?;
+        Ok(TileId(pyramid::base_of(z) + hilbert::index_of(z, x, y)))
     }
 }
 
 impl TileId {
     pub const MAX_TILE_ID: u64 = 6148914691236517204;
 
-    pub fn new(id: u64) -> IdAnswer
+    #[tactic(auto, unfolding(crate::specs::Answers::new_id))]
+    pub fn new(id: u64) -> Result<TileId, Refusal>
         ensures { said_id result ≡ new_id id }
     {
         if id <= TileId::MAX_TILE_ID {
-            IdAnswer::Id(TileId(id))
+            Ok(TileId(id))
         } else {
-            IdAnswer::Refused(Refusal::InvalidTileId)
+            Err(Refusal::InvalidTileId)
         }
     }
 
@@ -104,28 +85,21 @@ impl TileId {
         self.0
     }
 
-    pub fn zoom(self) -> ZoomAnswer
+    #[tactic(auto, unfolding(crate::specs::Answers::new_id, crate::specs::Answers::to_zoom))]
+    pub fn zoom(self) -> Result<u8, Refusal>
         ensures { said_zoom result ≡ to_zoom self.0 }
     {
-        let id = self.0;
-        if id <= TileId::MAX_TILE_ID {
-            ZoomAnswer::Zoom(pyramid::level_of(id).z)
-        } else {
-            ZoomAnswer::Refused(Refusal::InvalidTileId)
-        }
+        let TileId(id) = TileId::new(self.0)?;
+        Ok(pyramid::level_of(id).z)
     }
 
-    pub fn to_coord(self) -> CoordAnswer
+    #[tactic(auto, using(crate::proofs::Zooms::in_zoom), unfolding(crate::specs::Answers::new_id, crate::specs::Answers::to_coord_lem, crate::specs::Tile::coord_of_lem))]
+    pub fn to_coord(self) -> Result<TileCoord, Refusal>
         ensures { said_coord result ≡ to_coord_lem self.0 }
     {
-        let id = self.0;
-        if id <= TileId::MAX_TILE_ID {
-            let level = pyramid::level_of(id);
-            let z = level.z;
-            let p = hilbert::place_of(z as u32, id - level.base);
-            CoordAnswer::Coord(TileCoord { z, x: p.x, y: p.y })
-        } else {
-            CoordAnswer::Refused(Refusal::InvalidTileId)
-        }
+        let TileId(id) = TileId::new(self.0)?;
+        let Level { z, base } = pyramid::level_of(id);
+        let p = hilbert::place_of(z, id - base);
+        Ok(TileCoord { z, x: p.x, y: p.y })
     }
 }

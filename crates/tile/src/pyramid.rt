@@ -1,9 +1,9 @@
 // The pyramid of zooms: how many tiles lie below each, and the zoom in which an id lies.
 ghost use Rattle.std.specs.Prelude.{◌≡◌, ◌<◌, ◌≤◌};
-ghost use Rattle.tile.specs.Tile.{base, zoom_of, Bases};
+ghost use Rattle.tile.specs.Tile.{base, zoom_of};
 ghost use Rattle.tile.specs.Answers.{max_id};
 
-// The number of tiles below each zoom, from which the zoom of an id is found.
+// The number of tiles below each zoom.
 pub const PYRAMID_SIZE_BY_ZOOM: [u64; 32] = [
     0,
     1,
@@ -39,12 +39,12 @@ pub const PYRAMID_SIZE_BY_ZOOM: [u64; 32] = [
     1537228672809129301,
 ];
 
-// The first id of a zoom. By arithmetic, since a use of the table lays all of it.
+// The first id of a zoom. By arithmetic, since a use of the table would lay all of it on the stack.
 pub(crate) fn base_of(z: u8) -> u64
     requires { z < 32 }
     ensures { result ≡ base z }
 {
-    ((1u64 << (2 * (z as u64))) - 1) / 3
+    ((1u64 << (2 * z)) - 1) / 3
 }
 
 // A zoom and its first id.
@@ -54,34 +54,14 @@ pub(crate) struct Level {
     pub(crate) base: u64,
 }
 
-// The zoom of an id, by halving: it is one of the `width` zooms from z on.
-fn zoom_in(bases: &[u64; 32], id: u64) -> usize
-    requires { Bases bases.now × (id ≤ max_id) }
-    ensures { (result ≡ zoom_of id) × (result < 32) }
-{
-    let mut z: usize = 0;
-    let mut width: usize = 32;
-    while 1 < width {
-        let half = width / 2;
-        if bases[z + half] <= id {
-            z += half;
-            width -= half;
-        } else {
-            width = half;
-        }
-    }
-    z
-}
-
-// The table is laid into a local once: each use of a const lays it anew.
+// The zoom of an id. A zoom's first id is (4 ^ z - 1) / 3, so 4 ^ z is at most 3 * id + 1, and 4 ^ (z + 1) above it.
 pub(crate) fn level_of(id: u64) -> Level
     requires { id ≤ max_id }
     ensures { (result.z ≡ zoom_of id) × (result.base ≡ base (zoom_of id)) }
 {
-    let bases = PYRAMID_SIZE_BY_ZOOM;
-    let z = zoom_in(&bases, id);
+    let z = ((3 * id + 1).ilog2() / 2) as u8;
     Level {
-        z: z as u8,
-        base: bases[z],
+        z,
+        base: base_of(z),
     }
 }

@@ -1,17 +1,17 @@
 -- The loop that reads a varint byte by byte: what it keeps, and its turns. Assumes nothing.
 use Prim.Native.Nat.{ℕ, zero, suc, ◌+◌, ◌-◌, ◌*◌, ◌^◌, ◌≤◌, ◌<◌}
-use mathlib.Core.Path.{◌≡◌, ap, sym}
+use mathlib.Core.Path.{◌≡◌, ap}
 use mathlib.Core.Bool.{cond}
 use mathlib.Core.List.{List}
 use native.Mathlib.Nat.{pow-suc, one-le-pow, mul-le-mul_left, mul-le-mul_right}
 use native.Mathlib.Numerals.{add-one}
 use native.Mathlib.Omega.{arith}
-use borrow.Author.Tests.{lt-ltb, le-ltb, le-leb, lt-leb}
+use borrow.Author.Tests.{le-ltb}
 use lib.Arith.{digits_lt}
-use lib.Dec.{leb, ltb}
-use lib.ListN.{length, drop, get_or, length-drop, drop_of_length-le}
+use lib.Dec.{ltb}
+use lib.ListN.{length, drop, get_or}
 use lib.Seq.{drop-cons}
-use Rattle.refusal.specs.Out.{Out, ok, bad, ◌>>=◌, need}
+use Rattle.refusal.specs.Out.{Out, ok, ◌>>=◌}
 use Rattle.refusal.proofs.OutLaws.{bind_assoc, bind-cong}
 use Rattle.varint.specs.Varint.{Width, limit, read, read_at, read_var}
 
@@ -49,18 +49,7 @@ at_byte : (n cap : ℕ) (s : List ℕ) (p : ℕ) → 0 < n → p < length s
 at_byte zero cap s p h l = absurd (omega arith)
 at_byte (suc n) cap s p h l = let one : suc n - 1 ≡ n = omega arith in rw (one, add-one, drop-cons s p 0)
 
-at_last : (n cap : ℕ) (s : List ℕ) (p : ℕ) → n ≡ 0 → p < length s
-    → read_var n cap (drop p s) ≡ need (leb (get_or s p 0) cap) 9 (ok (get_or s p 0, drop (p + 1) s))
-at_last zero cap s p h l = rw (add-one, drop-cons s p 0)
-at_last (suc n) cap s p h l = absurd (omega arith)
-
-after : (s : List ℕ) (p : ℕ) → p < length s → length s - length (drop (p + 1) s) ≡ p + 1
-after s p h = rw length-drop (omega arith)
-
 module _ {w : Width} {s : List ℕ} {at p left value scale : ℕ} (k : Kept w s at p left value scale) where
-  pub cut : length s ≤ p → bad 8 ≡ read_at w s at
-  cut h = sym (rw (k.same, drop_of_length-le s h))
-
   pub fits : (b : ℕ) → 1 ≤ w.cap → 0 < left → b < 128 → (value + b * scale < 2 ^ 64) × (scale * 128 < 2 ^ 64)
   fits b c h l = omega (arith, digits_lt {q = b} {m = 128} {r = value} {c = scale} l k.below, (wider w.cap scale left h k.room).0, mul-le-mul_right (scale * 128) c)
 
@@ -71,15 +60,6 @@ module _ {w : Width} {s : List ℕ} {at p left value scale : ℕ} (k : Kept w s 
 
   -- the byte at the place
   module _ {b : ℕ} (e : b ≡ get_or s p 0) (l : p < length s) where
-    pub large : left ≡ 0 → w.cap < b → bad 9 ≡ read_at w s at
-    large h t = sym (rw (k.same, at_last left w.cap s p h l, ← e, lt-leb b w.cap t))
-
-    pub last : left ≡ 0 → b ≤ w.cap → ok (value + b * scale, p + 1) ≡ read_at w s at
-    last h t = sym (rw (k.same, at_last left w.cap s p h l, ← e, le-leb b w.cap t, after s p l))
-
-    pub ends : 0 < left → b < 128 → ok (value + b * scale, p + 1) ≡ read_at w s at
-    ends h t = sym (rw (k.same, at_byte left w.cap s p h l, ← e, lt-ltb b 128 t, after s p l))
-
     pub turn : 0 < left → 128 ≤ b → b < 256 → Kept w s at (p + 1) (left - 1) (value + (b - 128) * scale) (scale * 128)
     turn h t u =
         record {

@@ -1,18 +1,19 @@
 -- The rows of columns that are walked side by side are the entries of the columns read one after another. Assumes nothing.
 use Prim.Native.Nat.{ℕ, zero, suc, ◌+◌, ◌-◌, ◌^◌}
 use mathlib.Core.Path.{◌≡◌, ap, sym, ◌∙◌}
-use mathlib.Core.Bool.{true, false}
 use mathlib.Core.List.{List, [], ◌∷◌}
 use mathlib.Core.Option.{none, some}
 use lib.Dec.{leb, ltb}
 use lib.ListN.{drop}
+use Rattle.std.specs.Prelude.{Some, None}
 use Rattle.refusal.specs.Out.{Out, ok, ◌>>=◌, need}
 use Rattle.refusal.proofs.OutLaws.{bind_assoc, bind-cong, bind_ok, need-bind, need-ok, ok-is}
 use Rattle.varint.specs.Varint.{Width, narrow, read_at, wide}
 use Rattle.varint.proofs.Reading.{bridge}
 use Rattle.directory.specs.Entries.{Entry, check, entry, max_count}
-use Rattle.directory.specs.Columns.{column_at, columns, end_of, entries, id_step, offset_of, offset_step, plain_step}
+use Rattle.directory.specs.Columns.{column_at, columns, entries, id_step, offset_of, offset_step, plain_step}
 use Rattle.directory.specs.Decode.{decode, ended}
+use Rattle.directory.specs.Answers.{end_after}
 use Rattle.walk.specs.Walk.{columns_at, open_in, past, rest_in, row_at, rows_from, rows_in, step_at}
 use Rattle.walk.specs.declared.cursors.Columns.{Columns}
 use Rattle.walk.proofs.ByEntry.{check_bind}
@@ -79,7 +80,7 @@ module _ (l : List ℕ) where
 
   abbrev Side : ℕ → Columns → List ℕ → List ℕ → List ℕ → Type 0
   Side n k is rs ls =
-      column_at wide offset_step n (end_of k.first k.last_offset.0 k.last_length, ls) l k.offsets.at >>= (λ (os, q). ok (entries is rs ls os, q)) ≡ rows_from l n k
+      column_at wide offset_step n (end_after k.before, ls) l k.offsets.at >>= (λ (os, q). ok (entries is rs ls os, q)) ≡ rows_from l n k
 
   -- so the faults left are those of the offset codes
   rows-side : (n : ℕ) (k : Columns) (is rs ls : List ℕ) (ri rr rl : ℕ) → Numbers n k is rs ls ri rr rl → Side n k is rs ls
@@ -101,10 +102,10 @@ module _ (l : List ℕ) where
           rw (a.is, b.is, c.is, a.here, a.turned, b.here, c.here, same, run, len)
           (simp bind_assoc
           (bind-cong (read_at wide l k.offsets.at) _ _ (λ y _.
-          bind-cong (offset_of (end_of k.first k.last_offset.0 k.last_length) y.0) _ _ (λ o _.
+          bind-cong (offset_of (end_after k.before) y.0) _ _ (λ o _.
           sym (bind_assoc (column_at wide offset_step n (some (o + c.v), c.xs') l y.1) (λ (os, q). ok (entries a.xs' b.xs' c.xs' os, q)) (λ (es, q). ok (entry a.s' b.v c.v o ∷ es, q)))
           ∙ ap (λ (z : Out (List Entry × ℕ)). z >>= λ (es, q). ok (entry a.s' b.v c.v o ∷ es, q))
-          (ih (columns_at a.p b.p c.p y.1 (k.left - 1) false a.s' o c.v) a.xs' b.xs' c.xs' (record { ids = a.rest; runs = b.rest; lengths = c.rest }))))))
+          (ih (columns_at a.p b.p c.p y.1 (k.left - 1) a.s' (Some (record { offset = record { 0 = o }; length = c.v }))) a.xs' b.xs' c.xs' (record { ids = a.rest; runs = b.rest; lengths = c.rest }))))))
 
   -- the columns, whatever is done with them, opened and then walked
   pub columns-rows : {B : Type 0} (G : List Entry × List ℕ → Out B)
@@ -124,7 +125,7 @@ module _ (l : List ℕ) where
       column-bridge wide offset_step l n.0 (none, s.0) s.1 _
       ∙ sym (bind_assoc (column_at wide offset_step n.0 (none, s.0) l s.1) (λ (os, q). ok (entries i.0 r.0 s.0 os, q)) (λ (xs, q). G (xs, drop q l)))
       ∙ ap (λ (z : Out (List Entry × ℕ)). z >>= λ (xs, q). G (xs, drop q l))
-      (rows-side n.0 (columns_at n.1 i.1 r.1 s.1 n.0 true 0 0 0) i.0 r.0 s.0 i.1 r.1 s.1 (record { ids = ei; runs = er; lengths = es }))))))))
+      (rows-side n.0 (columns_at n.1 i.1 r.1 s.1 n.0 0 None) i.0 r.0 s.0 i.1 r.1 s.1 (record { ids = ei; runs = er; lengths = es }))))))))
 
   -- a directory's entries, whatever is done with them, are the rows of its columns, checked
   pub decode-rows : {B : Type 0} (F : List Entry → Out B) → decode none l >>= (λ (es, u). F es) ≡ open_in l >>= λ k. rest_in l k (λ es. check 0 es (F es))

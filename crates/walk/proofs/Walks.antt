@@ -12,8 +12,9 @@ use Rattle.refusal.specs.Out.{Out, ok, bad, ◌>>=◌}
 use Rattle.refusal.proofs.OutLaws.{bind_assoc, bind-cong, bind_ok, need-ok, ok-is}
 use Rattle.varint.specs.Varint.{narrow, read_at, wide}
 use Rattle.directory.specs.Entries.{Entry, Valid, check, max_count}
-use Rattle.directory.specs.Columns.{end_of, id_step, offset_of, plain_step}
+use Rattle.directory.specs.Columns.{id_step, offset_of, plain_step}
 use Rattle.directory.specs.Decode.{decode, ended}
+use Rattle.directory.specs.Answers.{end_after}
 use Rattle.walk.specs.Walk.{next_in, open_in, past, rest_in, row_at, rows_from, rows_in, step_at}
 use Rattle.walk.specs.declared.cursors.Columns.{Columns}
 use Rattle.directory.proofs.Checks.{check_sound}
@@ -31,7 +32,7 @@ unfolding row_at
 row-left l k =
     let P : Entry × Columns → Type 0 = λ a. a.1.left ≡ k.left - 1 in
     bind_all P (step_at wide id_step k.last_id l k.ids.at) _ (λ i. bind_all P (read_at narrow l k.runs.at) _ (λ r. bind_all P (read_at narrow l k.lengths.at) _ (λ n.
-    bind_all P (read_at wide l k.offsets.at) _ (λ x. bind_all P (offset_of (end_of k.first k.last_offset.0 k.last_length) x.0) _ (λ o a e.
+    bind_all P (read_at wide l k.offsets.at) _ (λ x. bind_all P (offset_of (end_after k.before) x.0) _ (λ o a e.
     sym (ap (λ (b : Entry × Columns). b.1.left) (ok-is e)))))))
 
 module _ {B : Type 0} (l : List ℕ) (k : Columns) (F : List Entry → Out B) where
@@ -64,9 +65,9 @@ module _ {B : Type 0} (l : List ℕ) (k : Columns) (F : List Entry → Out B) wh
   unfolding rest_in
   rest-same h = bind-cong (rows_in l k) _ _ (λ a _. bind-cong (ended l _) _ _ (λ u _. h a.0))
 
-pub next-less : (l : List ℕ) (k : Columns) {e : Entry} {k' : Columns} → ok (some (e, k')) ≡ next_in l k → k'.left < k.left
+pub next_less : (l : List ℕ) (k : Columns) {e : Entry} {k' : Columns} → ok (some (e, k')) ≡ next_in l k → k'.left < k.left
 unfolding next_in
-next-less l k {e} {k'} p = go (eqb k.left 0) refl
+next_less l k {e} {k'} p = go (eqb k.left 0) refl
   where
     less : 0 < k.left → (a : Entry × Columns) × (row_at l k ≡ ok a) × (◌≡◌ {A = Out (Option (Entry × Columns))} (ok (some a)) (ok (some (e, k')))) → k'.left < k.left
     less h g =

@@ -4,5 +4,5 @@
 mod cursors;
 mod sweep;
 
-pub use cursors::{Columns, Next, Opened, Row};
+pub use cursors::Columns;
 pub use sweep::find;

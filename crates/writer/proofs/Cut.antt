@@ -4,22 +4,21 @@ use mathlib.Core.Path.{◌≡◌, refl, ap, ap₂, sym, ◌∙◌}
 use mathlib.Core.List.{List, [], ◌∷◌}
 use native.Mathlib.Omega.{arith}
 use lib.ListN.{drop, drop_of_length-le, get_or, length, length-drop, length-take, take}
-use lib.Seq.{drop-drop, take_all, take-nil, take-take}
+use lib.Seq.{drop-drop, take_all, take-take}
 use Rattle.varint.proofs.Cases.{by-lt}
 use Rattle.directory.specs.Entries.{Entry}
 use Rattle.directory.specs.Columns.{entries}
 use Rattle.directory.specs.Encode.{encode}
 use Rattle.directory.proofs.Round.{ids}
-use Rattle.writer.specs.Stock.{Stock}
+use Rattle.acceptance.specs.Accept.{Accepts}
 use Rattle.writer.specs.Build.{chunks, first_id, leaves_of}
 use Rattle.writer.specs.Cells.{Rising, part}
 use Rattle.writer.specs.Cuts.{cuts, every, first_ids, leaf_end_lem}
-use Rattle.writer.proofs.Chunks.{AllLeaf, all-leaf, chunk-fuel, chunk-step, joined, joined-chunks}
+use Rattle.writer.proofs.Chunks.{chunk-fuel, chunk-step}
 use Rattle.writer.proofs.Lengths.{encode-size}
-use Rattle.writer.proofs.Parts.{cell-more, ids-part, part_length, part-more, part_none}
-use Rattle.writer.proofs.Pointers.{firsts-rise}
+use Rattle.writer.proofs.Parts.{cell-more, drop-take, ids-part, ids-rise, ranged, part_length, part_none, rest-more}
 use Rattle.writer.proofs.Puts.{Kept, recut}
-use Rattle.writer.proofs.Stocks.{stock-few}
+use Rattle.writer.proofs.Stocks.{accepts-few, accepts-ready}
 
 module _ (i k n : ℕ) where
   module _ (h : 0 < k) (l : i < n) where
@@ -34,11 +33,6 @@ module _ (i k n : ℕ) where
   pub end-last : n - i ≤ k → i < n → n ≡ leaf_end_lem i k n
   unfolding leaf_end_lem
   end-last h l = omega arith
-
-drop-take : {A : Type 0} (i k : ℕ) (l : List A) → take k (drop i l) ≡ drop i (take (i + k) l)
-drop-take zero k l = let z : 0 + k ≡ k = omega arith in rw z
-drop-take (suc i) k [] = let z : suc i + k ≡ suc (i + k) = omega arith in rw z (take-nil k)
-drop-take (suc i) k (x ∷ l) = let z : suc i + k ≡ suc (i + k) = omega arith in rw z (drop-take i k l)
 
 module _ {A : Type 0} (l : List A) (i k n : ℕ) (le : i < n) (m : n ≤ length l) where
   -- the first k of a range, and the others
@@ -72,21 +66,17 @@ module _ (es : List Entry) (k i n : ℕ) where
       ∙ ap₂ {C = List (List Entry)} (λ x y. x ∷ chunks (n - (i + 1)) k y) (part-take es i k n l m) (part-drop es i k n l m)
       ∙ ap {B = List (List Entry)} (λ x. part i (leaf_end_lem i k n) es ∷ x) (chunk-fuel (n - (i + 1)) (n - leaf_end_lem i k n) k (part (leaf_end_lem i k n) n es) h (omega arith) (omega arith))
 
+-- the last of them
+pub cuts-last : (es : List Entry) (k i n : ℕ) → 0 < k → i < n → n ≤ length es → n ≤ i + k → cuts k i n es ≡ part i (leaf_end_lem i k n) es ∷ []
+cuts-last es k i n h l m e =
+    cuts-more es k i n h l m
+    ∙ ap {B = List (List Entry)} (λ x. part i (leaf_end_lem i k n) es ∷ x) (cuts-none es k (leaf_end_lem i k n) n (omega (arith, end-last i k n (omega arith) l)))
+
 -- all of them
 module _ (es : List Entry) (k n : ℕ) (m : n ≤ length es) where
   pub cuts-all : cuts k 0 n es ≡ chunks (length (part 0 n es)) k (part 0 n es)
   unfolding cuts
   cuts-all = ap (λ (f : ℕ). chunks f k (part 0 n es)) (sym (part_length es 0 n m))
-
-  module _ (h : 0 < k) (s : Stock (part 0 n es)) where
-    pub cuts-leaf : AllLeaf (cuts k 0 n es)
-    cuts-leaf = rw cuts-all (all-leaf (length (part 0 n es)) k (part 0 n es) h s)
-
-    pub cuts-joined : joined (cuts k 0 n es) ≡ part 0 n es
-    cuts-joined = ap joined cuts-all ∙ joined-chunks (length (part 0 n es)) k (part 0 n es) h (omega arith)
-
-    pub cuts-rise : Rising 0 (first_ids (cuts k 0 n es))
-    cuts-rise = firsts-rise (cuts k 0 n es) cuts-leaf (rw cuts-joined s)
 
 -- ---- first ids
 
@@ -95,12 +85,26 @@ every_drop k zero xs = refl
 every_drop k (suc s) [] = refl
 every_drop k (suc s) (x ∷ xs) = every_drop k s xs
 
-pub every_more : (xs : List ℕ) (k i n : ℕ) → 0 < k → i < n → n ≤ length xs → every k 0 (part i n xs) ≡ get_or xs i 0 ∷ every k 0 (part (leaf_end_lem i k n) n xs)
-every_more xs k i n h l m =
-    let z : k ≡ suc (k - 1) = omega arith in
-    let e = part-more xs i n 0 l m in
-    let d : drop (k - 1) (part (i + 1) n xs) ≡ part (leaf_end_lem i k n) n xs = sym (ap (λ (t : ℕ). drop t (part i n xs)) z ∙ ap (drop (suc (k - 1))) e) ∙ part-drop xs i k n l m in
-    ap (every k 0) e ∙ ap {B = List ℕ} (λ t. get_or xs i 0 ∷ t) (every_drop k (k - 1) (part (i + 1) n xs) ∙ ap (every k 0) d)
+module _ (xs : List ℕ) (k i : ℕ) (h : 0 < k) (l : i < length xs) where
+  pub every_more : every k 0 (drop i xs) ≡ get_or xs i 0 ∷ every k 0 (drop (i + k) xs)
+  every_more =
+      let z : k ≡ suc (k - 1) = omega arith in
+      let n : i + 1 + (k - 1) ≡ i + k = omega arith in
+      let d : drop (k - 1) (drop (i + 1) xs) ≡ drop (i + k) xs = drop-drop (k - 1) (i + 1) xs ∙ (rw n) in
+      ap (every k 0) (rest-more xs i l) ∙ ap {B = List ℕ} (λ t. get_or xs i 0 ∷ t) (every_drop k (k - 1) (drop (i + 1) xs) ∙ ap (every k 0) d)
+
+  pub every_last : length xs ≤ i + k → every k 0 (drop i xs) ≡ get_or xs i 0 ∷ []
+  every_last m = every_more ∙ ap (λ t. get_or xs i 0 ∷ every k 0 t) (drop_of_length-le xs {i = i + k} m)
+
+lower : (a b : ℕ) (xs : List ℕ) → a ≤ b → Rising b xs → Rising a xs
+lower a b [] h r = tt
+lower a b (x ∷ xs) h r = let k : b ≤ x = r.0 in (omega arith, r.1)
+
+-- of numbers that rise, every k-th rise
+every-rises : (k s prev : ℕ) (xs : List ℕ) → Rising prev xs → Rising prev (every k s xs)
+every-rises k s prev [] r = tt
+every-rises k zero prev (x ∷ xs) r = (r.0, every-rises k (k - 1) x xs r.1)
+every-rises k (suc s) prev (x ∷ xs) r = every-rises k s prev xs (lower prev x xs r.0 r.1)
 
 ids-drop : (k : ℕ) (es : List Entry) → ids (drop k es) ≡ drop k (ids es)
 ids-drop zero es = refl
@@ -126,17 +130,26 @@ module _ (a b c d : List ℕ) (k n : ℕ) (h : 0 < k) (m : n ≤ length (entries
       ∙ firsts-every (length (part 0 n (entries a b c d))) k (part 0 n (entries a b c d)) h (omega arith)
       ∙ ap (every k 0) (ids-part a b c d 0 n m)
 
+  -- and they rise
+  pub front-rise : Accepts (2 ^ 64 - 1) (part 0 n (entries a b c d)) → Rising 0 (every k 0 (part 0 n a))
+  front-rise s =
+      every-rises k 0 0 (part 0 n a)
+      (rw (ranged 0 n a (omega arith)) at (ids-rise a b c d 0 n m (omega arith) (accepts-ready n (entries a b c d) m s 0 n (omega arith) (omega arith)).codable))
+
+  pub cuts-rise : Accepts (2 ^ 64 - 1) (part 0 n (entries a b c d)) → Rising 0 (first_ids (cuts k 0 n (entries a b c d)))
+  cuts-rise s = rw firsts-are (front-rise s)
+
   module _ (i : ℕ) (l : i < n) where
     -- a leaf's first id is that of the entry where it starts
     pub first-is : first_id (part i (leaf_end_lem i k n) (entries a b c d)) ≡ get_or a i 0
     first-is = let e = end-in i k n h l in ap first_id (cell-more a b c d i (leaf_end_lem i k n) (omega arith) (omega arith))
 
 -- how many bytes a leaf takes
-pub leaf-size : (es : List Entry) (k i n : ℕ) → 0 < k → i < n → n ≤ length es → Stock (part 0 n es)
+pub leaf-size : (es : List Entry) (k i n : ℕ) → 0 < k → i < n → n ≤ length es → Accepts (2 ^ 64 - 1) (part 0 n es)
     → (length (encode (part i (leaf_end_lem i k n) es)) ≤ 40 * (leaf_end_lem i k n - i)) × (length (encode (part i (leaf_end_lem i k n) es)) < 2 ^ 32)
 leaf-size es k i n h l m s =
     let e = end-in i k n h l in
-    omega (arith, encode-size (part i (leaf_end_lem i k n) es), part_length es i (leaf_end_lem i k n) (omega arith), stock-few n es m s)
+    omega (arith, encode-size (part i (leaf_end_lem i k n) es), part_length es i (leaf_end_lem i k n) (omega arith), accepts-few n es m s)
 
 -- the next of the leaves that are still to be put
 pub next-leaf : {old : List ℕ} {start : ℕ} {whole new : List ℕ} {at : ℕ} {cs ds : List (List Entry)} {c : List Entry}

@@ -1,123 +1,107 @@
 -- The outcomes of building. Assumes nothing.
-use Prim.Native.Nat.{ℕ, ◌≤◌, ◌<◌, ◌^◌}
-use mathlib.Core.Path.{◌≡◌, refl, ap, sym, ◌∙◌}
-use mathlib.Core.Bool.{Bool, true, false, ◌&&◌}
-use mathlib.Core.List.{List, []}
+use Prim.Native.Nat.{ℕ, ◌-◌, ◌≤◌, ◌<◌, ◌^◌}
+use mathlib.Core.Path.{◌≡◌, refl, ap, ap₂, sym, ◌∙◌}
+use mathlib.Core.List.{List}
 use native.Mathlib.Omega.{arith}
-use borrow.Author.Tests.{leb-true}
+use borrow.Author.Tests.{le-leb, leb-true, lt-leb}
 use lib.Dec.{leb}
 use lib.ListN.{length}
 use lib.Seq.{sets}
-use Rattle.refusal.specs.Out.{Out, ok, bad, need}
+use Rattle.std.specs.Prelude.{Ok, Err}
+use Rattle.refusal.specs.Out.{Out, ok, bad, afterwards, need}
 use Rattle.refusal.specs.Number.{number_of}
 use Rattle.refusal.specs.declared.Refusal.{Refusal}
-use Rattle.refusal.proofs.OutLaws.{bind-cong, bind_ok, need-ok, ok-is}
+use Rattle.refusal.proofs.OutLaws.{bind_ok, need-ok, ok-is}
 use Rattle.directory.specs.Entries.{Entry}
 use Rattle.directory.specs.Columns.{entries}
-use Rattle.directory.specs.Encode.{encode}
-use Rattle.acceptance.specs.Accept.{accepting}
+use Rattle.acceptance.specs.Accept.{Accepts, accepting}
 use Rattle.acceptance.specs.Answers.{counts_in_lem, counts_of}
 use Rattle.acceptance.specs.declared.Counts.{Counts}
 use Rattle.acceptance.proofs.Accepts.{accepting-sound}
-use Rattle.writer.specs.Stock.{Stock, Typed}
-use Rattle.writer.specs.Answers.{BuiltFrom, building, fitted, sizes_in, sizes_of}
-use Rattle.writer.specs.Build.{build, leaves_of, pointers}
+use Rattle.writer.specs.Answers.{BuiltFrom, building, fitted, laid, sizes_in, sizes_of}
+use Rattle.writer.specs.Build.{build}
 use Rattle.writer.specs.Cells.{part}
-use Rattle.writer.specs.Cuts.{Planned, cuts, shaped}
-use Rattle.writer.specs.declared.Built.{Built}
-use Rattle.writer.specs.declared.Built.TheVariants as bu
+use Rattle.writer.specs.Cuts.{Planned, sizes_planned}
 use Rattle.writer.specs.declared.Sizes.{Sizes}
-use Rattle.writer.specs.declared.leaves.Plan.{Plan}
-use Rattle.writer.proofs.Cut.{cuts-all}
+use Rattle.writer.specs.declared.building.Layout.{Layout}
 use Rattle.writer.proofs.Parts.{entries-length, stored-part}
-use Rattle.writer.proofs.Plans.{shaped-leaves}
-use Rattle.writer.proofs.Stocks.{accepted-stock}
-use Rattle.writer.proofs.Written.{landing}
+use Rattle.writer.proofs.Plans.{planned-sizes}
+use Rattle.writer.proofs.Stocks.{any-size}
+use Rattle.writer.proofs.Written.{landing, no_value}
 
--- ---- an answer and the buffers
+-- ---- entries that were accepted, into two buffers
 
-module _ (x : Out (List Entry)) (counts : List Entry → Counts) (root leaves : List ℕ) where
-  pub refused : (r : Refusal) → x ≡ bad (number_of r) → BuiltFrom x counts (bu.Refused r) root leaves root leaves
-  refused r e = rw e (record { answer = refl; in_root = refl; in_leaves = refl })
+module _ (es : List Entry) (root leaves : List ℕ) where
+  abbrev fit : Out (List Entry)
+  fit = fitted es (length root) (length leaves)
 
-  pub finished : (es : List Entry) → x ≡ ok es → length (build es).root ≤ length root → length (build es).leaves ≤ length leaves
-      → (root' leaves' : List ℕ) → root' ≡ sets root 0 (build es).root → leaves' ≡ sets leaves 0 (build es).leaves
-      → (s : Sizes) → s ≡ sizes_of (build es) → BuiltFrom x counts (bu.Done s (counts es)) root leaves root' leaves'
-  finished es e h k root' leaves' p q s z =
-      rw e
-      (record {
-        answer = ap {B = Out (Sizes × Counts)} (λ y. ok (y, counts es)) z;
-        in_root = p ∙ landing (build es).root root h;
-        in_leaves = q ∙ landing (build es).leaves leaves k;
-      })
+  -- what is answered, and what the buffers hold then
+  abbrev pub Finished : Out Sizes → List ℕ → List ℕ → Type 0
+  Finished x root' leaves' =
+      (x ≡ sizes_in fit)
+      × (root' ≡ afterwards fit root (λ es. laid (build es).root root))
+      × (leaves' ≡ afterwards fit leaves (λ es. laid (build es).leaves leaves))
 
--- ---- entries that were accepted
-
-need-both : {A : Type 0} (p q : Bool) (k : ℕ) (x : Out A) → need (p && q) k x ≡ need p k (need q k x)
-need-both true q k x = refl
-need-both false q k x = refl
-
-module _ (es : List Entry) (root_room leaf_room : ℕ) where
-  -- one test of both rooms, by the sizes that were planned
-  module _ (s : Sizes) (z : s ≡ sizes_of (build es)) (b : Bool) (h : b ≡ leb s.root root_room && leb s.leaves leaf_room) where
-    tested : fitted es root_room leaf_room ≡ need b 15 (ok es)
+  module _ (s : Sizes) (z : s ≡ sizes_of (build es)) where
+    pub root-short : length root < s.root → Finished (bad 15) root leaves
     unfolding fitted
-    tested = rw (h, z) (sym (need-both (leb (length (build es).root) root_room) (leb (length (build es).leaves) leaf_room) 15 (ok es)))
+    root-short h = rw (lt-leb (length (build es).root) (length root) (omega (arith, ap (λ (s : Sizes). s.root) z))) (refl, refl, refl)
 
-    pub no_room : b ≡ false → fitted es root_room leaf_room ≡ bad 15
-    no_room e = tested ∙ (rw e)
+    module _ (h : s.root ≤ length root) where
+      pub leaves-short : length leaves < s.leaves → Finished (bad 15) root leaves
+      unfolding fitted
+      leaves-short k =
+          rw (
+            le-leb (length (build es).root) (length root) (omega (arith, ap (λ (s : Sizes). s.root) z)),
+            lt-leb (length (build es).leaves) (length leaves) (omega (arith, ap (λ (s : Sizes). s.leaves) z)),
+          )
+          (refl, refl, refl)
 
-    pub both-fit : b ≡ true → fitted es root_room leaf_room ≡ ok es
-    both-fit e = tested ∙ (rw e)
+      pub both-laid : s.leaves ≤ length leaves → (root' leaves' : List ℕ) → root' ≡ sets root 0 (build es).root → leaves' ≡ sets leaves 0 (build es).leaves
+          → Finished (ok s) root' leaves'
+      unfolding fitted
+      both-laid k root' leaves' p q =
+          let a : length (build es).root ≤ length root = omega (arith, ap (λ (s : Sizes). s.root) z) in
+          let b : length (build es).leaves ≤ length leaves = omega (arith, ap (λ (s : Sizes). s.leaves) z) in
+          rw (le-leb (length (build es).root) (length root) a, le-leb (length (build es).leaves) (length leaves) b)
+          (ap ok z, p ∙ landing (build es).root root a, q ∙ landing (build es).leaves leaves b)
 
-  pub fitted-sound : (fs : List Entry) → fitted es root_room leaf_room ≡ ok fs → (length (build es).root ≤ root_room) × (length (build es).leaves ≤ leaf_room) × (es ≡ fs)
+  pub fitted-sound : (fs : List Entry) → fit ≡ ok fs → (length (build es).root ≤ length root) × (length (build es).leaves ≤ length leaves) × (es ≡ fs)
   unfolding fitted
   fitted-sound fs p =
-      let a = need-ok (leb (length (build es).root) root_room) 15 (need (leb (length (build es).leaves) leaf_room) 15 (ok es)) fs p in
-      let b = need-ok (leb (length (build es).leaves) leaf_room) 15 (ok es) fs a.1 in
+      let a = need-ok (leb (length (build es).root) (length root)) 15 (need (leb (length (build es).leaves) (length leaves)) 15 (ok es)) fs p in
+      let b = need-ok (leb (length (build es).leaves) (length leaves)) 15 (ok es) fs a.1 in
       (leb-true _ _ a.0, leb-true _ _ b.0, ok-is b.1)
 
-  -- the counts that were handed on are those of the entries
-  recount : (counts : Counts) → counts_of es ≡ counts → (r : Built) (root leaves root' leaves' : List ℕ)
-      → BuiltFrom (fitted es root_room leaf_room) (λ _. counts) r root leaves root' leaves' → BuiltFrom (fitted es root_room leaf_room) counts_of r root leaves root' leaves'
-  recount counts e r root leaves root' leaves' f =
-      record {
-        answer =
-            f.answer
-            ∙ bind-cong (fitted es root_room leaf_room) _ _
-            (λ fs p. ap {B = Out (Sizes × Counts)} (λ c. ok (sizes_of (build fs), c)) (sym e ∙ ap counts_of (fitted-sound fs p).2));
-        in_root = f.in_root;
-        in_leaves = f.in_leaves;
-      }
+  module _ (root' leaves' : List ℕ) where
+    -- the counts that were handed on are those of the entries
+    recount : (s : Sizes) → Finished (ok s) root' leaves' → BuiltFrom fit counts_of (Ok (s, counts_of es)) root leaves root' leaves'
+    recount s f =
+        let k = bind_ok fit (λ es. ok (sizes_of (build es))) s (sym f.0) in
+        record {
+          answer = rw k.1 (ap₂ {C = Out (Sizes × Counts)} (λ s c. ok (s, c)) (sym (ok-is k.2)) (ap counts_of (fitted-sound k.0 k.1).2));
+          in_root = f.1;
+          in_leaves = f.2;
+        }
 
--- ---- what is planned
-
-module _ (n : ℕ) (es : List Entry) (m : n ≤ length es) (p : Plan) (q : Planned n es p) where
-  pub built-flat : p.leaf ≡ 0 → build (part 0 n es) ≡ record { root = encode (part 0 n es); leaves = [] }
-  built-flat z = q.dirs ∙ ap (λ (k : ℕ). shaped k (part 0 n es)) z
-
-  pub built-split : 0 < p.leaf → build (part 0 n es) ≡ record { root = encode (pointers 0 (cuts p.leaf 0 n es)); leaves = leaves_of (cuts p.leaf 0 n es) }
-  built-split z = q.dirs ∙ shaped-leaves p.leaf (part 0 n es) z ∙ rw (cuts-all es p.leaf n m) refl
+    refused : (r : Refusal) → Finished (bad (number_of r)) root' leaves' → BuiltFrom fit counts_of (Err r) root leaves root' leaves'
+    refused r f =
+        let e = no_value fit (λ es. sizes_of (build es)) (number_of r) f.0 in
+        record { answer = rw e; in_root = f.1; in_leaves = f.2 }
 
 -- ---- from the stores
 
 module _ (n : ℕ) (a b c d : List ℕ) (size : ℕ) where
-  no-counts : (x : Out (List Entry)) (k : ℕ) → bad k ≡ counts_in_lem x → x ≡ bad k
-  no-counts (ok es) k h = let z : ◌≡◌ {A = ℕ} 0 1 = cc in absurd (omega arith)
-  no-counts (bad m) k h = let e : m ≡ k = cc in ap bad e
-
   module _ (k : ℕ) (h : bad k ≡ counts_in_lem (accepting n a b c d size)) where
-    pub sizes-bad : bad k ≡ sizes_in (accepting n a b c d size)
-    sizes-bad = rw (no-counts (accepting n a b c d size) k h)
+    none-taken : accepting n a b c d size ≡ bad k
+    none-taken = no_value (accepting n a b c d size) counts_of k h
 
-    pub building-bad : (root_room leaf_room : ℕ) → building n a b c d size root_room leaf_room ≡ bad k
+    pub building-bad : (r : Refusal) → k ≡ number_of r → (root leaves : List ℕ)
+        → BuiltFrom (building n a b c d size (length root) (length leaves)) counts_of (Err r) root leaves root leaves
     unfolding building
-    building-bad root_room leaf_room = rw (no-counts (accepting n a b c d size) k h)
+    building-bad r e root leaves = rw (none-taken, e) (record { answer = refl; in_root = refl; in_leaves = refl })
 
   module _ (counts : Counts) (h : ok counts ≡ counts_in_lem (accepting n a b c d size)) where
-    es : List Entry
-    es = part 0 n (entries a b c d)
-
     accepted : (accepting n a b c d size ≡ ok (part 0 n (entries a b c d))) × (counts_of (part 0 n (entries a b c d)) ≡ counts) × (n ≤ length (entries a b c d))
     accepted =
         let k = bind_ok (accepting n a b c d size) (λ es. ok (counts_of es)) counts (sym h) in
@@ -125,14 +109,19 @@ module _ (n : ℕ) (a b c d : List ℕ) (size : ℕ) where
         let e : k.0 ≡ part 0 n (entries a b c d) = sym s.1 ∙ stored-part n a b c d in
         (k.1 ∙ ap ok e, sym (ap counts_of e) ∙ ok-is k.2, rw entries-length s.0)
 
-    pub accepted-ready : Typed a b c d → size < 2 ^ 64 → (n ≤ length (entries a b c d)) × Stock (part 0 n (entries a b c d))
-    accepted-ready t l = (accepted.2, accepted-stock n a b c d size (part 0 n (entries a b c d)) t l accepted.0)
+    pub accepted-ready : size < 2 ^ 64 → (n ≤ length (entries a b c d)) × Accepts (2 ^ 64 - 1) (part 0 n (entries a b c d))
+    accepted-ready l = (accepted.2, any-size size (part 0 n (entries a b c d)) l (accepting-sound n a b c d size (part 0 n (entries a b c d)) accepted.0).2)
 
-    pub sizes-are : (p : Plan) → Planned n (entries a b c d) p → ok p.sizes ≡ sizes_in (accepting n a b c d size)
-    sizes-are p q = rw accepted.0 (ap ok q.sizes)
+    pub sizes-are : (p : Layout) → Planned n (entries a b c d) p → ok (sizes_planned p) ≡ sizes_in (accepting n a b c d size)
+    sizes-are p q = rw accepted.0 (ap ok (planned-sizes (entries a b c d) n accepted.2 p q))
 
-    pub building-from : (r : Built) (root leaves root' leaves' : List ℕ) → BuiltFrom (fitted (part 0 n (entries a b c d)) (length root) (length leaves)) (λ _. counts) r root leaves root' leaves'
-        → BuiltFrom (building n a b c d size (length root) (length leaves)) counts_of r root leaves root' leaves'
-    unfolding building
-    building-from r root leaves root' leaves' f =
-        rw accepted.0 (recount (part 0 n (entries a b c d)) (length root) (length leaves) counts accepted.1 r root leaves root' leaves' f)
+    module _ (root leaves root' leaves' : List ℕ) where
+      pub building-refused : (r : Refusal) → Finished (part 0 n (entries a b c d)) root leaves (bad (number_of r)) root' leaves'
+          → BuiltFrom (building n a b c d size (length root) (length leaves)) counts_of (Err r) root leaves root' leaves'
+      unfolding building
+      building-refused r f = rw accepted.0 (refused (part 0 n (entries a b c d)) root leaves root' leaves' r f)
+
+      pub building-done : (s : Sizes) → Finished (part 0 n (entries a b c d)) root leaves (ok s) root' leaves'
+          → BuiltFrom (building n a b c d size (length root) (length leaves)) counts_of (Ok (s, counts)) root leaves root' leaves'
+      unfolding building
+      building-done s f = rw (← accepted.1, accepted.0) (recount (part 0 n (entries a b c d)) root leaves root' leaves' s f)

@@ -11,7 +11,7 @@ use Rattle.varint.proofs.Cases.{by-lt}
 use Rattle.directory.specs.Entries.{Entry}
 use Rattle.directory.specs.Encode.{encode}
 use Rattle.writer.specs.Build.{build, chunks, leaf_size, pointers, root_room, with_leaves}
-use Rattle.writer.specs.Cuts.{first_size_lem, shaped}
+use Rattle.writer.specs.Cuts.{first_size_lem}
 use Rattle.writer.proofs.Chunks.{chunks-nil}
 use Rattle.writer.proofs.Lengths.{encode-size}
 
@@ -64,14 +64,6 @@ size_fits (suc f) k es h l =
 
 -- ---- which of the two shapes
 
-pub first-low : (n : ℕ) → n / 3500 < 4096 → 4096 ≡ first_size_lem n
-unfolding first_size_lem
-first-low n h = omega arith
-
-pub first-high : (n : ℕ) → 4096 ≤ n / 3500 → n / 3500 ≡ first_size_lem n
-unfolding first_size_lem
-first-high n h = omega arith
-
 pub first-bound : (n : ℕ) → (4096 ≤ first_size_lem n) × (first_size_lem n ≤ n + 4096)
 unfolding first_size_lem
 first-bound n = omega arith
@@ -84,7 +76,7 @@ module _ (es : List Entry) where
   pub leaf-some : 4096 ≤ leaf_of es
   leaf-some = omega (arith, size-from (length es) (first_size_lem (length es)) es, first-bound (length es))
 
-  pub build-flat : length es < 16384 → length (encode es) ≤ root_room → build es ≡ shaped 0 es
+  pub build-flat : length es < 16384 → length (encode es) ≤ root_room → build es ≡ record { root = encode es; leaves = [] }
   unfolding build
   build-flat h k = rw (lt-ltb (length es) 16384 h, le-leb (length (encode es)) root_room k)
 
@@ -98,7 +90,7 @@ module _ (es : List Entry) where
 
 -- what is built is one of two: a root only, or leaves of some size and a root of pointers
 pub data Shape (es : List Entry) : Type 0 where
-  flat : length (encode es) ≤ root_room → build es ≡ shaped 0 es → Shape es
+  flat : length (encode es) ≤ root_room → build es ≡ record { root = encode es; leaves = [] } → Shape es
   leafy : build es ≡ with_leaves (leaf_of es) es → Shape es
 
 pub shape : (es : List Entry) → Shape es

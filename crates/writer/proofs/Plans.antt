@@ -1,5 +1,5 @@
 -- What is chosen and planned for a range of entries. Assumes nothing.
-use Prim.Native.Nat.{ℕ, zero, suc, ◌+◌, ◌/◌, ◌≤◌, ◌<◌}
+use Prim.Native.Nat.{ℕ, ◌+◌, ◌/◌, ◌≤◌, ◌<◌}
 use mathlib.Core.Path.{◌≡◌, refl, ap, ap₂, sym, ◌∙◌}
 use mathlib.Core.List.{List}
 use native.Mathlib.Omega.{arith}
@@ -9,16 +9,15 @@ use Rattle.directory.specs.Encode.{encode}
 use Rattle.writer.specs.Answers.{sizes_of}
 use Rattle.writer.specs.Build.{build, leaf_size, leaves_of, pointers, root_room, with_leaves}
 use Rattle.writer.specs.Cells.{part}
-use Rattle.writer.specs.Cuts.{Measured, Planned, cuts, first_size_lem, shaped}
-use Rattle.writer.specs.declared.leaves.Plan.{Plan}
+use Rattle.writer.specs.Cuts.{Measured, Planned, cuts, first_size_lem, sizes_planned}
 use Rattle.writer.specs.declared.Sizes.{Sizes}
+use Rattle.writer.specs.declared.building.Layout.{Layout}
+use Rattle.writer.specs.declared.building.Layout.TheVariants as layout
+use Rattle.writer.specs.declared.leaves.Split.{Split}
+use Rattle.varint.proofs.Cases.{by-lt}
 use Rattle.writer.proofs.Cut.{cuts-all}
 use Rattle.writer.proofs.Growth.{build-flat, build-large, build-many, grown-here, grown-on, leaf-some, leaf_of, root_length_lem}
 use Rattle.writer.proofs.Parts.{part_length}
-
-pub shaped-leaves : (k : ℕ) (es : List Entry) → 0 < k → shaped k es ≡ with_leaves k es
-shaped-leaves zero es h = absurd (omega arith)
-shaped-leaves (suc k) es h = refl
 
 module _ (es : List Entry) (n : ℕ) (m : n ≤ length es) where
   count-is : length (part 0 n es) ≡ n
@@ -34,34 +33,30 @@ module _ (es : List Entry) (n : ℕ) (m : n ≤ length es) where
     pub grows : 5 ≤ k → root_room < root → (k < n) × (leaf_size n k (part 0 n es) ≡ leaf_size n (k + k / 5) (part 0 n es))
     grows h l = rw count-is at (grown-on k (part 0 n es) h (omega (arith, root_is)))
 
-  -- the leaves of the size that is found
-  found : cuts (leaf_of (part 0 n es)) 0 n es ≡ cuts (leaf_size n (first_size_lem n) (part 0 n es)) 0 n es
-  found = ap (λ (c : ℕ). cuts (leaf_size c (first_size_lem c) (part 0 n es)) 0 n es) count-is
-
-  module _ (p : Plan) (q : Measured n es (leaf_size n (first_size_lem n) (part 0 n es)) p) where
-    leaf-is : p.leaf ≡ leaf_of (part 0 n es)
-    leaf-is = q.leaf ∙ sym (ap (λ (c : ℕ). leaf_size c (first_size_lem c) (part 0 n es)) count-is)
-
-    plan-leaves : build (part 0 n es) ≡ with_leaves (leaf_of (part 0 n es)) (part 0 n es) → Planned n es p
+  module _ (p : Split) (q : Measured n es (leaf_size n (first_size_lem n) (part 0 n es)) p) where
+    plan-leaves : build (part 0 n es) ≡ with_leaves (leaf_of (part 0 n es)) (part 0 n es) → Planned n es (layout.Leaves p)
     plan-leaves b =
-        let some = leaf-some (part 0 n es) in
-        let cs = cuts-all es (leaf_size n (first_size_lem n) (part 0 n es)) n m in
-        let d : build (part 0 n es) ≡ with_leaves (leaf_size n (first_size_lem n) (part 0 n es)) (part 0 n es) = b ∙ ap (λ (c : ℕ). with_leaves (leaf_size c (first_size_lem c) (part 0 n es)) (part 0 n es)) count-is in
-        record {
-          dirs = b ∙ rw leaf-is (sym (shaped-leaves (leaf_of (part 0 n es)) (part 0 n es) (omega arith)));
-          many = λ _. rw q.leaf q.many;
-          sizes =
-              ap₂ {C = Sizes} (λ x y. record { root = x; leaves = y }) (q.root ∙ ap (λ c. length (encode (pointers 0 c))) cs) (q.leaves ∙ ap (λ c. length (leaves_of c)) cs)
-              ∙ sym (ap sizes_of d);
-        }
+        let e : p.leaf ≡ leaf_of (part 0 n es) = q.leaf ∙ sym (ap (λ (c : ℕ). leaf_size c (first_size_lem c) (part 0 n es)) count-is) in
+        let some = leaf-some (part 0 n es) in (omega arith, rw (sym q.leaf) at q, rw e b)
 
-    pub plan-many : 16384 ≤ n → Planned n es p
-    plan-many h = plan-leaves (build-many (part 0 n es) (rw count-is h))
+    pub plan-split : (n < 16384 → root_room < length (encode (part 0 n es))) → Planned n es (layout.Leaves p)
+    plan-split h =
+        by-lt n 16384
+        (λ l. plan-leaves (build-large (part 0 n es) (rw count-is l) (h l)))
+        (λ l. plan-leaves (build-many (part 0 n es) (rw count-is l)))
 
-    pub plan-large : n < 16384 → root_room < length (encode (part 0 n es)) → Planned n es p
-    plan-large h l = plan-leaves (build-large (part 0 n es) (rw count-is h) l)
+  pub plan-flat : n < 16384 → (r : ℕ) → r ≡ length (encode (part 0 n es)) → r ≤ root_room → Planned n es (layout.Root r)
+  plan-flat h r e l = (build-flat (part 0 n es) (rw count-is h) (omega arith), e)
 
-  pub plan-flat : n < 16384 → (r : ℕ) → r ≡ length (encode (part 0 n es)) → r ≤ root_room → Planned n es (record { leaf = 0; pointers = 0; sizes = record { root = r; leaves = 0 } })
-  plan-flat h r e l =
-      let d = build-flat (part 0 n es) (rw count-is h) (omega arith) in
-      record { dirs = d; many = λ z. absurd (omega arith); sizes = ap {B = Sizes} (λ x. record { root = x; leaves = 0 }) e ∙ sym (ap sizes_of d) }
+  -- what is planned is as large as what is built
+  pub planned-sizes : (p : Layout) → Planned n es p → sizes_planned p ≡ sizes_of (build (part 0 n es))
+  planned-sizes (layout.Root r) q = ap {B = Sizes} (λ x. record { root = x; leaves = 0 }) q.1 ∙ sym (ap sizes_of q.0)
+  planned-sizes (layout.Leaves p) q =
+      let cs = cuts-all es p.leaf n m in
+      ap₂ {C = Sizes} (λ x y. record { root = x; leaves = y }) (q.1.root ∙ ap (λ c. length (encode (pointers 0 c))) cs) (q.1.leaves ∙ ap (λ c. length (leaves_of c)) cs)
+      ∙ sym (ap sizes_of q.2)
+
+  -- leaves as they are cut
+  pub split-is : (k : ℕ) → build (part 0 n es) ≡ with_leaves k (part 0 n es)
+      → build (part 0 n es) ≡ record { root = encode (pointers 0 (cuts k 0 n es)); leaves = leaves_of (cuts k 0 n es) }
+  split-is k b = b ∙ rw (cuts-all es k n m) refl

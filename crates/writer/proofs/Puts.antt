@@ -5,9 +5,17 @@ use mathlib.Core.List.{List, [], ◌∷◌, ◌++◌, append-nil}
 use native.Mathlib.Omega.{arith}
 use lib.ListN.{length, length-append, set}
 use lib.Seq.{length-sets, sets}
+use Rattle.std.specs.Prelude.{Result, Ok, Err, IsOk}
+use Rattle.refusal.specs.Out.{ok}
+use Rattle.refusal.specs.Said.{said}
+use Rattle.refusal.specs.declared.Refusal.{Refusal}
 use Rattle.varint.specs.Varint.{Width, put}
 use Rattle.directory.specs.Encode.{put_all}
 use Rattle.writer.specs.Cells.{Wrote}
+
+pub said-ok : {A B : Type 0} (f : A → B) (r : Result A Refusal) (b : B) → said f r ≡ ok b → IsOk r
+said-ok f (Ok a) b e = refl
+said-ok f (Err r) b e = absurd (cc)
 
 sets-append : (a b l : List ℕ) (i : ℕ) → sets l i (a ++ b) ≡ sets (sets l i a) (i + length a) b
 sets-append [] b l i = ap (λ (k : ℕ). sets l k b) (omega arith)
@@ -50,10 +58,6 @@ module _ {old : List ℕ} {start : ℕ} {whole new : List ℕ} {at : ℕ} {x : L
 module _ {old : List ℕ} {start : ℕ} {whole new : List ℕ} {at : ℕ} where
   pub done : Kept old start whole new at [] → Wrote old start whole new at
   done k = record { past = omega (arith, k.past); held = k.held }
-
-  -- the place lies in the buffer
-  pub within : {rest : List (List ℕ)} → Kept old start whole new at rest → start + length whole ≤ length old → at ≤ length new
-  within k h = omega (arith, k.same, k.past)
 
   pub last_empty : {x : List ℕ} → Kept old start whole new at (x ∷ []) → x ≡ [] → Wrote old start whole new at
   last_empty k e = record { past = omega (arith, k.past, ap length e); held = sym (ap (sets new at) e) ∙ k.held }

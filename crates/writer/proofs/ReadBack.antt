@@ -11,7 +11,8 @@ use Rattle.refusal.proofs.OutLaws.{bind_ok, need-ok, ok-is}
 use Rattle.directory.specs.Answers.{counted, kept, said_read}
 use Rattle.directory.specs.Search.{shortest, stored}
 use Rattle.directory.specs.Stores.{ReadInto, reading}
-use Rattle.directory.specs.declared.DirectoryRead.{DirectoryRead}
+use Rattle.std.specs.Prelude.{Result}
+use Rattle.refusal.specs.declared.Refusal.{Refusal}
 use Rattle.directory.proofs.Slots.{fields, stored-length}
 use Rattle.writer.specs.Stock.{Typed}
 use Rattle.writer.specs.Answers.{laid, writing}
@@ -39,7 +40,7 @@ module _ (n : ℕ) (a b c d : List ℕ) (t : Typed a b c d) (old bytes : List �
     read_back = written_read n a b c d t (some (shortest ids runs lens offs)) bytes (drop (length bytes) old) (le-leb n _ h) encoded
 
     -- and reading them into stores restores what the writer's stores hold
-    pub restored : (r : DirectoryRead) (ids' runs' lens' offs' : List ℕ) → ReadInto (reading (laid bytes old) ids runs lens offs) r ids ids' runs runs' lens lens' offs offs'
+    pub restored : (r : Result (ℕ × ℕ) Refusal) (ids' runs' lens' offs' : List ℕ) → ReadInto (reading (laid bytes old) ids runs lens offs) r ids ids' runs runs' lens lens' offs offs'
         → (said_read r ≡ ok (n, length bytes)) × Restored n a b c d ids ids' runs runs' lens lens' offs offs'
     unfolding encoding
     restored r ids' runs' lens' offs' f =

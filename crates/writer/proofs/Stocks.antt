@@ -14,10 +14,11 @@ use Rattle.directory.specs.Decode.{decode}
 use Rattle.directory.specs.Encode.{Fitting, encode}
 use Rattle.directory.specs.Search.{All}
 use Rattle.directory.proofs.Round.{decode-encode}
-use Rattle.acceptance.specs.Accept.{Taken, accepting}
+use Rattle.acceptance.specs.Accept.{Accepts, Taken, accepting}
 use Rattle.acceptance.proofs.Accepts.{accepting-sound}
 use Rattle.writer.specs.Stock.{Narrow, Stock, Typed}
-use Rattle.writer.specs.Cells.{Ready, part}
+use Rattle.writer.specs.Cells.{Codable, Ready, part}
+use Rattle.writer.proofs.Coded.{codable-fits}
 use Rattle.writer.proofs.Codes.{code-le}
 use Rattle.writer.proofs.Parts.{part_length, stored-part}
 use Rattle.writer.proofs.Typed.{all_drop, all-narrow, all-part, all_take}
@@ -62,57 +63,52 @@ module _ (k : ℕ) (es : List Entry) (s : Stock es) where
         narrow = all_drop Narrow k es s.narrow;
       }
 
-fitting : (lo prev : ℕ) (p : Option ℕ) (es : List Entry) → prev ≤ lo → Valid lo es → All (Taken (2 ^ 64 - 1)) es → All Narrow es → Fitting prev p es
-fitting lo prev p [] h v t n = tt
-fitting lo prev p (e ∷ es) h v t n =
+codable : (lo prev : ℕ) (p : Option ℕ) (es : List Entry) → prev ≤ lo → Valid lo es → All (Taken (2 ^ 64 - 1)) es → Codable prev p es
+codable lo prev p [] h v t = tt
+codable lo prev p (e ∷ es) h v t =
     let full : 0 < e.len = v.0.full in
     let low : lo ≤ e.id = v.0.low in
-    let fit : e.off + e.len ≤ 2 ^ 64 - 1 = t.0.in_data in (
-      record {
-        rises = omega arith;
-        id64 = omega (arith, v.0.top);
-        run32 = n.0.run32;
-        len32 = n.0.len32;
-        off64 = n.0.off64;
-        code64 = omega (arith, code-le p e.off);
-      },
-      fitting (after e) e.id (some (e.off + e.len)) es (omega arith) v.1 t.1 n.1,
-    )
+    let fit : e.off + e.len ≤ 2 ^ 64 - 1 = t.0.in_data in
+    ((omega arith, omega (arith, code-le p e.off)), codable (after e) e.id (some (e.off + e.len)) es (omega arith) v.1 t.1)
 
 module _ (es : List Entry) (s : Stock es) where
-  pub stock-fits : Fitting 0 none es
-  stock-fits = fitting 0 0 none es (omega arith) s.accepts.valid s.accepts.taken s.narrow
+  stock-fits : Fitting 0 none es
+  stock-fits = codable-fits 0 0 none es (codable 0 0 none es (omega arith) s.accepts.valid s.accepts.taken) s.accepts.valid s.narrow
 
   -- written as a directory, they are read back
   pub stock-read : (room : Option ℕ) (rest : List ℕ) → roomy room (length es) ≡ true → decode room (encode es ++ rest) ≡ ok (es, length (encode es))
   stock-read room rest r = decode-encode room es rest s.accepts.few r stock-fits s.accepts.valid
 
-module _ (n : ℕ) (es : List Entry) (inside : n ≤ length es) (s : Stock (part 0 n es)) where
-  pub stock-few : n ≤ max_count
-  stock-few = omega (arith, part_length es 0 n inside, s.accepts.few)
+module _ (n : ℕ) (es : List Entry) (inside : n ≤ length es) (a : Accepts (2 ^ 64 - 1) (part 0 n es)) where
+  pub accepts-few : n ≤ max_count
+  accepts-few = omega (arith, part_length es 0 n inside, a.few)
 
-  pub stock-part : (from to : ℕ) → to ≤ n → Stock (part from to es)
+  pub accepts-ready : (from to : ℕ) → from ≤ to → to ≤ n → Ready from to es
   unfolding part
-  stock-part from to h = rw (← take-take to n es h) (stock-drop from (take to (take n es)) (stock-take to (take n es) s))
-
-  pub stock-ready : (from to : ℕ) → from ≤ to → to ≤ n → Ready from to es
-  stock-ready from to h k =
+  accepts-ready from to h k =
+      let t = take to (take n es) in
+      let c = codable 0 0 none (drop from t) (omega arith) (valid-drop 0 from t (valid-take 0 to (take n es) a.valid))
+      (all_drop (Taken (2 ^ 64 - 1)) from t (all_take (Taken (2 ^ 64 - 1)) to (take n es) a.taken)) in
       record {
         order = h;
-        few = omega (arith, stock-few);
+        few = omega (arith, accepts-few);
         inside = omega arith;
-        fits = stock-fits (part from to es) (stock-part from to k);
+        codable = rw take-take at c;
       }
 
 all-data : (size : ℕ) (es : List Entry) → size < 2 ^ 64 → All (Taken size) es → All (Taken (2 ^ 64 - 1)) es
 all-data size [] h t = tt
 all-data size (e ∷ es) h t = let fit : e.off + e.len ≤ size = t.0.in_data in (record { covers = t.0.covers; in_data = omega arith }, all-data size es h t.1)
 
+-- and what is accepted for data of some size
+pub any-size : (size : ℕ) (es : List Entry) → size < 2 ^ 64 → Accepts size es → Accepts (2 ^ 64 - 1) es
+any-size size es h a = record { few = a.few; valid = a.valid; taken = all-data size es h a.taken }
+
 -- what is accepted from typed stores is such a stock
 pub accepted-stock : (n : ℕ) (a b c d : List ℕ) (size : ℕ) (es : List Entry) → Typed a b c d → size < 2 ^ 64 → accepting n a b c d size ≡ ok es → Stock es
 accepted-stock n a b c d size es t h p =
     let s = accepting-sound n a b c d size es p in
     record {
-      accepts = record { few = s.2.few; valid = s.2.valid; taken = all-data size es h s.2.taken };
+      accepts = any-size size es h s.2;
       narrow = rw (← stored-part n a b c d, s.1) at (all-part Narrow 0 n (entries a b c d) (all-narrow a b c d t));
     }

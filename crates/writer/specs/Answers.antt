@@ -1,31 +1,23 @@
 -- What the writer's functions answer, in the words of the definitions. Assumes nothing.
-use Rattle.std.specs.Prelude.{ℕ, ◌≡◌, List, ◌++◌, leb, drop, length}
-use Rattle.refusal.specs.Out.{Out, ok, bad, ◌>>=◌, afterwards, need}
-use Rattle.refusal.specs.Number.{number_of}
+use Rattle.std.specs.Prelude.{ℕ, ◌≡◌, Result, List, ◌++◌, leb, drop, length}
+use Rattle.refusal.specs.Out.{Out, ok, ◌>>=◌, afterwards, need}
+use Rattle.refusal.specs.Said.{said}
+use Rattle.refusal.specs.declared.Refusal.{Refusal}
 use Rattle.directory.specs.Entries.{Entry}
 use Rattle.acceptance.specs.Accept.{accepting}
 use Rattle.acceptance.specs.declared.Counts.{Counts}
 use Rattle.writer.specs.Write.{encoding}
 use Rattle.writer.specs.Build.{Directories, build}
 use Rattle.writer.specs.declared.Sizes.{Sizes}
-use Rattle.writer.specs.declared.Length.{Length}
-use Rattle.writer.specs.declared.Length.TheVariants as le
-use Rattle.writer.specs.declared.Sized.{Sized}
-use Rattle.writer.specs.declared.Sized.TheVariants as si
-use Rattle.writer.specs.declared.Built.{Built}
-use Rattle.writer.specs.declared.Built.TheVariants as bu
 
-abbrev pub said_length : Length → Out ℕ
-said_length (le.Bytes n) = ok n
-said_length (le.Refused r) = bad (number_of r)
+abbrev pub said_length : Result ℕ Refusal → Out ℕ
+said_length = said (λ n. n)
 
-abbrev pub said_sized : Sized → Out Sizes
-said_sized (si.Sizes s) = ok s
-said_sized (si.Refused r) = bad (number_of r)
+abbrev pub said_sized : Result Sizes Refusal → Out Sizes
+said_sized = said (λ s. s)
 
-abbrev pub said_built : Built → Out (Sizes × Counts)
-said_built (bu.Done s c) = ok (s, c)
-said_built (bu.Refused r) = bad (number_of r)
+abbrev pub said_built : Result (Sizes × Counts) Refusal → Out (Sizes × Counts)
+said_built = said (λ b. b)
 
 -- bytes at the start of a buffer that has room for them, and behind them what it held
 abbrev pub laid : List ℕ → List ℕ → List ℕ
@@ -53,7 +45,7 @@ unfoldable pub building : ℕ → List ℕ → List ℕ → List ℕ → List �
 building n ids runs lens offs size root_room leaf_room = accepting n ids runs lens offs size >>= λ es. fitted es root_room leaf_room
 
 -- an answer and the two buffers afterwards, where x says which entries are built, if any
-pub record BuiltFrom (x : Out (List Entry)) (counts : List Entry → Counts) (r : Built) (root leaves root' leaves' : List ℕ) : Type 0 where
+pub record BuiltFrom (x : Out (List Entry)) (counts : List Entry → Counts) (r : Result (Sizes × Counts) Refusal) (root leaves root' leaves' : List ℕ) : Type 0 where
   pub answer : said_built r ≡ x >>= λ es. ok (sizes_of (build es), counts es)
   pub in_root : root' ≡ afterwards x root (λ es. laid (build es).root root)
   pub in_leaves : leaves' ≡ afterwards x leaves (λ es. laid (build es).leaves leaves)

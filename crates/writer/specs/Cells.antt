@@ -1,19 +1,33 @@
 -- Ranges of entries and their bytes: what the contracts of the private functions cite. Assumes nothing.
-use Rattle.std.specs.Prelude.{ℕ, ◌+◌, ◌-◌, ◌≤◌, ◌<◌, ◌≡◌, List, [], ◌∷◌, map, length}
+use Rattle.std.specs.Prelude.{ℕ, ◌+◌, ◌-◌, ◌^◌, ◌≤◌, ◌<◌, ◌≡◌, List, [], ◌∷◌, get_or, map, length}
 use Rattle.std.proofs.Math.Option.{Option, none, some}
 use Rattle.std.proofs.lemmas.List.Edits.{sets}
 use Rattle.std.proofs.Math.Seq.{slice}
 use Rattle.refusal.specs.Out.{Out, ok}
 use Rattle.varint.specs.Varint.{narrow, wide}
-use Rattle.directory.specs.Entries.{Entry, after, max_count}
-use Rattle.directory.specs.Columns.{end_of}
-use Rattle.directory.specs.Encode.{Fitting, code_of, codes, differences, put_all}
+use Rattle.directory.specs.Entries.{Entry, after, entry, max_count}
+use Rattle.directory.specs.Columns.{entries}
+use Rattle.directory.specs.Encode.{code_of, codes, differences, put_all}
+use Rattle.directory.specs.declared.Stores.{Stores}
 use Rattle.writer.specs.Write.{check_coded_lem}
-use Rattle.writer.specs.declared.sizing.End.{End}
 
 -- the elements from one place up to another
 unfoldable pub part : {A : Type 0} → ℕ → ℕ → List A → List A
 part from to l = slice from to l
+
+-- ---- stores
+
+-- the entries in all slots of four stores
+abbrev pub slots : Stores → List Entry
+slots s = entries s.ids.now s.runs.now s.lengths.now s.offsets.now
+
+-- the entries that count
+abbrev pub in_use : Stores → List Entry
+in_use s = part 0 s.count (slots s)
+
+-- the entry in a slot
+abbrev pub cell_at : List ℕ → List ℕ → List ℕ → List ℕ → ℕ → Entry
+cell_at a b c d i = entry (get_or a i 0) (get_or b i 0) (get_or c i 0) (get_or d i 0)
 
 -- ---- what is written
 
@@ -42,16 +56,17 @@ abbrev pub Below : ℕ → List ℕ → Type 0
 Below m [] = Unit {0}
 Below m (x ∷ xs) = (x < m) × Below m xs
 
+-- entries that can be coded after an id and an end: no id is below the one before, and each offset's code fits in 64 bits
+abbrev pub Codable : ℕ → Option ℕ → List Entry → Type 0
+Codable prev p [] = Unit {0}
+Codable prev p (e ∷ es) = ((prev ≤ e.id) × (code_of p e.off < 2 ^ 64)) × Codable e.id (some (e.off + e.len)) es
+
 -- a range that can be written as a directory
 pub record Ready (from to : ℕ) (es : List Entry) : Type 0 where
   pub order : from ≤ to
   pub few : to ≤ max_count
   pub inside : to ≤ length es
-  pub fits : Fitting 0 none (part from to es)
-
--- where the entry before ends, or none
-abbrev pub end_at : End → Option ℕ
-end_at e = end_of e.first e.offset.0 e.length
+  pub codable : Codable 0 none (part from to es)
 
 -- how many bytes entries take in the four columns, where an id and an end come before
 unfoldable pub size_from : ℕ → Option ℕ → List Entry → ℕ

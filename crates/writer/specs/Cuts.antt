@@ -2,10 +2,12 @@
 use Rattle.std.specs.Prelude.{ℕ, zero, suc, ◌+◌, ◌-◌, ◌/◌, ◌<◌, max, min, ◌≡◌, List, [], ◌∷◌, length, replicate}
 use Rattle.directory.specs.Entries.{Entry}
 use Rattle.directory.specs.Encode.{encode}
-use Rattle.writer.specs.Build.{Directories, build, chunks, first_id, leaves_of, pointers, with_leaves}
-use Rattle.writer.specs.Answers.{sizes_of}
+use Rattle.writer.specs.Build.{build, chunks, first_id, leaves_of, pointers, with_leaves}
 use Rattle.writer.specs.Cells.{part}
-use Rattle.writer.specs.declared.leaves.Plan.{Plan}
+use Rattle.writer.specs.declared.Sizes.{Sizes}
+use Rattle.writer.specs.declared.leaves.Split.{Split}
+use Rattle.writer.specs.declared.building.Layout.{Layout}
+use Rattle.writer.specs.declared.building.Layout.TheVariants as layout
 
 -- where a leaf of at most k entries ends that starts at i
 unfoldable pub leaf_end_lem : ℕ → ℕ → ℕ → ℕ
@@ -40,19 +42,18 @@ unfoldable pub first_size_lem : ℕ → ℕ
 first_size_lem n = max (n / 3500) 4096
 
 -- how many leaves of a size there are, and how large the root and the leaves are
-pub record Measured (n : ℕ) (es : List Entry) (k : ℕ) (p : Plan) : Type 0 where
+pub record Measured (n : ℕ) (es : List Entry) (k : ℕ) (p : Split) : Type 0 where
   pub leaf : p.leaf ≡ k
   pub many : p.pointers ≡ length (cuts k 0 n es)
   pub root : p.sizes.root ≡ length (encode (pointers 0 (cuts k 0 n es)))
   pub leaves : p.sizes.leaves ≡ length (leaves_of (cuts k 0 n es))
 
--- root and leaves by leaf size, where none, 0, makes a root only
-abbrev pub shaped : ℕ → List Entry → Directories
-shaped zero es = record { root = encode es; leaves = [] }
-shaped (suc k) es = with_leaves (suc k) es
+-- how large root and leaves are
+abbrev pub sizes_planned : Layout → Sizes
+sizes_planned (layout.Root n) = record { root = n; leaves = 0 }
+sizes_planned (layout.Leaves p) = p.sizes
 
--- how the first n entries are built
-pub record Planned (n : ℕ) (es : List Entry) (p : Plan) : Type 0 where
-  pub dirs : build (part 0 n es) ≡ shaped p.leaf (part 0 n es)
-  pub many : 0 < p.leaf → p.pointers ≡ length (cuts p.leaf 0 n es)
-  pub sizes : p.sizes ≡ sizes_of (build (part 0 n es))
+-- how the first n entries are built: as a root only, or as leaves of a size and a root of pointers
+abbrev pub Planned : ℕ → List Entry → Layout → Type 0
+Planned n es (layout.Root r) = (build (part 0 n es) ≡ record { root = encode (part 0 n es); leaves = [] }) × (r ≡ length (encode (part 0 n es)))
+Planned n es (layout.Leaves p) = (0 < p.leaf) × Measured n es p.leaf p × (build (part 0 n es) ≡ with_leaves p.leaf (part 0 n es))

@@ -1,123 +1,95 @@
 // Root and leaves of what the stores hold.
-ghost use Rattle.std.specs.Prelude.{◌≤◌, ◌&&◌, ◌≡◌, leb, length};
-ghost use Rattle.directory.specs.Columns.{entries};
+ghost use Rattle.std.specs.Prelude.{◌≡◌, length};
+ghost use Rattle.refusal.specs.Out.{afterwards};
+ghost use Rattle.directory.specs.Answers.{over};
 ghost use Rattle.acceptance.specs.Accept.{accepting};
 ghost use Rattle.acceptance.specs.Answers.{counts_of};
-ghost use Rattle.writer.specs.Stock.{Stock};
-ghost use Rattle.writer.specs.Answers.{BuiltFrom, building, fitted, said_sized, sizes_in};
-ghost use Rattle.writer.specs.Cells.{part};
-ghost use Rattle.writer.specs.Cuts.{Planned};
+ghost use Rattle.writer.specs.Stock.{Stocked};
+ghost use Rattle.writer.specs.Build.{build};
+ghost use Rattle.writer.specs.Answers.{BuiltFrom, building, fitted, laid, said_sized, sizes_in, sizes_of};
+ghost use Rattle.writer.specs.Cells.{in_use, slots};
+ghost use Rattle.writer.specs.Cuts.{Planned, sizes_planned};
 
+use crate::Sizes;
 use crate::columns::put_entries;
-use crate::leaves::{Plan, choose, put_split};
+use crate::leaves::{Split, choose, put_split};
 use crate::sizing::sized;
-use crate::{Built, Sized, Sizes};
-use acceptance::{Accepted, Counts, accept};
+use acceptance::{Counts, accept};
+use directory::Stores;
 use refusal::Refusal;
 
+// A root only, of so many bytes, or leaves too.
+#[derive(Clone, Copy)]
+enum Layout {
+    Root(usize),
+    Leaves(Split),
+}
+
+impl Layout {
+    fn sizes(self) -> Sizes
+        ensures { result ≡ sizes_planned self }
+    {
+        match self {
+            Layout::Root(root) => Sizes { root, leaves: 0 },
+            Layout::Leaves(split) => split.sizes,
+        }
+    }
+}
+
 // A root only where it fits, else leaves.
-fn plan(count: usize, ids: &[u64], runs: &[u32], lengths: &[u32], offsets: &[u64]) -> Plan
-    requires { (count ≤ length (entries ids.now runs.now lengths.now offsets.now)) × Stock (part 0 count (entries ids.now runs.now lengths.now offsets.now)) }
-    ensures { Planned count (entries ids.now runs.now lengths.now offsets.now) result }
+fn plan(stores: &Stores) -> Layout
+    requires { Stocked stores.now }
+    ensures { Planned stores.now.count (slots stores.now) result }
 {
-    if 16384 <= count {
-        return choose(count, ids, runs, lengths, offsets);
+    if stores.count < 16384 {
+        let n = sized(stores, 0, stores.count);
+        if n <= 16257 {
+            return Layout::Root(n);
+        }
     }
-    let n = sized(ids, runs, lengths, offsets, 0, count);
-    if 16257 < n {
-        return choose(count, ids, runs, lengths, offsets);
-    }
-    Plan {
-        leaf: 0,
-        pointers: 0,
-        sizes: Sizes { root: n, leaves: 0 },
-    }
+    Layout::Leaves(choose(stores))
 }
 
 // How many bytes `build` writes.
-pub fn build_sizes(
-    count: usize,
-    ids: &[u64],
-    runs: &[u32],
-    lengths: &[u32],
-    offsets: &[u64],
-    data_length: u64,
-) -> Sized
-    ensures { said_sized result ≡ sizes_in (accepting count ids.now runs.now lengths.now offsets.now data_length) }
+pub fn build_sizes(stores: &Stores, data_length: u64) -> Result<Sizes, Refusal>
+    ensures { said_sized result ≡ sizes_in (over stores.now accepting data_length) }
 {
-    match accept(count, ids, runs, lengths, offsets, data_length) {
-        Accepted::Refused(r) => {
-            return Sized::Refused(r);
-        }
-        Accepted::Counts(_) => {
-            let p = plan(count, ids, runs, lengths, offsets);
-            let sizes = p.sizes;
-            return Sized::Sizes(sizes);
-        }
-    }
+    accept(stores, data_length)?;
+    Ok(plan(stores).sizes())
 }
 
-// Whether the root and the leaves fit buffers of so many bytes.
-fn has_room(sizes: Sizes, root: usize, leaves: usize) -> bool
-    ensures { result ≡ leb sizes.root root && leb sizes.leaves leaves }
+// Entries that were accepted.
+fn finish(stores: &Stores, root: &mut [u8], leaves: &mut [u8]) -> Result<Sizes, Refusal>
+    requires { Stocked stores.now }
+    ensures { (said_sized result ≡ sizes_in (fitted (in_use stores.now) (length root.old) (length leaves.old)))
+        × (root.new ≡ afterwards (fitted (in_use stores.now) (length root.old) (length leaves.old)) root.old (λ es. laid (build es).root root.old))
+        × (leaves.new ≡ afterwards (fitted (in_use stores.now) (length root.old) (length leaves.old)) leaves.old (λ es. laid (build es).leaves leaves.old)) }
 {
-    if root < sizes.root {
-        return false;
+    let p = plan(stores);
+    let sizes = p.sizes();
+    if root.len() < sizes.root || leaves.len() < sizes.leaves {
+        return Err(Refusal::RoomTooShort);
     }
-    sizes.leaves <= leaves
-}
-
-// Entries that were accepted. The counts go on as they are.
-fn finish(
-    count: usize,
-    ids: &[u64],
-    runs: &[u32],
-    lengths: &[u32],
-    offsets: &[u64],
-    counts: Counts,
-    root: &mut [u8],
-    leaves: &mut [u8],
-) -> Built
-    requires { (count ≤ length (entries ids.now runs.now lengths.now offsets.now)) × Stock (part 0 count (entries ids.now runs.now lengths.now offsets.now)) }
-    ensures { BuiltFrom (fitted (part 0 count (entries ids.now runs.now lengths.now offsets.now)) (length root.old) (length leaves.old)) (λ _. counts) result
-        root.old leaves.old root.new leaves.new }
-{
-    let p = plan(count, ids, runs, lengths, offsets);
-    let sizes = p.sizes;
-    if has_room(sizes, root.len(), leaves.len()) {
-        let k = p.leaf;
-        if k == 0 {
-            put_entries(ids, runs, lengths, offsets, 0, count, root);
-            return Built::Done(sizes, counts);
+    match p {
+        Layout::Root(_) => {
+            put_entries(stores, 0, stores.count, root);
         }
-        put_split(
-            count, k, p.pointers, ids, runs, lengths, offsets, root, leaves,
-        );
-        return Built::Done(sizes, counts);
+        Layout::Leaves(split) => put_split(stores, split, root, leaves),
     }
-    Built::Refused(Refusal::RoomTooShort)
+    Ok(sizes)
 }
 
-// Root and leaves of the first `count` entries of the stores, at the start of their buffers.
+// Root and leaves of the entries that count, at the start of their buffers.
 pub fn build(
-    count: usize,
-    ids: &[u64],
-    runs: &[u32],
-    lengths: &[u32],
-    offsets: &[u64],
+    stores: &Stores,
     data_length: u64,
     root: &mut [u8],
     leaves: &mut [u8],
-) -> Built
-    ensures { BuiltFrom (building count ids.now runs.now lengths.now offsets.now data_length (length root.old) (length leaves.old)) counts_of result
+) -> Result<(Sizes, Counts), Refusal>
+    ensures { BuiltFrom (over stores.now building data_length (length root.old) (length leaves.old)) counts_of result
         root.old leaves.old root.new leaves.new }
 {
-    match accept(count, ids, runs, lengths, offsets, data_length) {
-        Accepted::Refused(r) => {
-            return Built::Refused(r);
-        }
-        Accepted::Counts(counts) => {
-            return finish(count, ids, runs, lengths, offsets, counts, root, leaves);
-        }
-    }
+    let counts = accept(stores, data_length)?;
+    let sizes = finish(stores, root, leaves)?;
+    Ok((sizes, counts))
 }

@@ -2,60 +2,54 @@
 ghost use Rattle.std.specs.Prelude.{◌≡◌, ◌+◌, ◌≤◌, ◌<◌, length, replicate};
 ghost use Rattle.std.proofs.lemmas.List.Edits.{sets};
 ghost use Rattle.varint.specs.Varint.{narrow, wide};
-ghost use Rattle.directory.specs.Columns.{entries};
 ghost use Rattle.directory.specs.Encode.{encode, put_all};
-ghost use Rattle.writer.specs.Stock.{Stock};
+ghost use Rattle.writer.specs.Stock.{Stocked};
 ghost use Rattle.writer.specs.Build.{leaf_size, leaves_of, pointers};
-ghost use Rattle.writer.specs.Cells.{Rising, Wrote, deltas, part};
+ghost use Rattle.writer.specs.Cells.{Rising, Wrote, deltas, in_use, slots};
 ghost use Rattle.writer.specs.Cuts.{Measured, cuts, every, first_size_lem, leaf_codes, leaf_end_lem, leaf_lengths};
 
 use crate::Sizes;
 use crate::columns::{put_entries, put_number};
 use crate::sizing::sized;
+use directory::Stores;
 
-// Leaves of so many entries, 0 where there is only a root; how many pointers the root has; how large both are.
+// Leaves of so many entries: how many pointers to them the root has, and how large root and leaves are.
 #[derive(Clone, Copy)]
-pub(crate) struct Plan {
+pub(crate) struct Split {
     pub(crate) leaf: usize,
     pub(crate) pointers: usize,
     pub(crate) sizes: Sizes,
 }
 
+#[tactic(auto, unfolding(crate::specs::Cuts::leaf_end_lem))]
 fn leaf_end(from: usize, k: usize, count: usize) -> usize
     requires { from < count }
     ensures { result ≡ leaf_end_lem from k count }
 {
-    if k < count - from { from + k } else { count }
+    from + k.min(count - from)
 }
 
-// Leaves of k entries, measured in one pass. In the root a pointer's run, 0, and its offset's code, 1 or 0, take a byte each.
-fn measure(
-    count: usize,
-    k: usize,
-    ids: &[u64],
-    runs: &[u32],
-    lengths: &[u32],
-    offsets: &[u64],
-) -> Plan
-    requires { (0 < k) × (count ≤ length (entries ids.now runs.now lengths.now offsets.now)) × Stock (part 0 count (entries ids.now runs.now lengths.now offsets.now)) }
-    ensures { Measured count (entries ids.now runs.now lengths.now offsets.now) k result }
+// Leaves of k entries, measured in one pass. In the root a pointer's run, 0, and its offset's code, 1 or 0, take a byte
+// each.
+// Stays: `Stocked` as a clause: a ghost field holds what goes by recursion in ∥ ∥₁ alone, which is no plainer.
+fn measure(stores: &Stores, k: usize) -> Split
+    requires { (0 < k) × Stocked stores.now }
+    ensures { Measured stores.now.count (slots stores.now) k result }
 {
     let mut n: usize = 0;
     let mut root: usize = 0;
     let mut leaves: usize = 0;
     let mut prev: u64 = 0;
-    let mut from: usize = 0;
-    while from < count {
-        let to = leaf_end(from, k, count);
-        let length = sized(ids, runs, lengths, offsets, from, to);
-        let id = ids[from];
+    for from in (0..stores.count).step_by(k) {
+        let to = leaf_end(from, k, stores.count);
+        let length = sized(stores, from, to);
+        let id = stores.ids[from];
         root += varint::size(id - prev) + varint::size(length as u64) + 2;
         leaves += length;
         n += 1;
         prev = id;
-        from = to;
     }
-    Plan {
+    Split {
         leaf: k,
         pointers: n,
         sizes: Sizes {
@@ -65,49 +59,40 @@ fn measure(
     }
 }
 
+#[tactic(auto, unfolding(crate::specs::Cuts::first_size_lem))]
 fn first_size(count: usize) -> usize
     ensures { result ≡ first_size_lem count }
 {
-    let k = count / 3500;
-    if k < 4096 {
-        return 4096;
-    }
-    k
+    (count / 3500).max(4096)
 }
 
 // The first leaf size whose root fits. It ends because one pointer always does.
-pub(crate) fn choose(
-    count: usize,
-    ids: &[u64],
-    runs: &[u32],
-    lengths: &[u32],
-    offsets: &[u64],
-) -> Plan
-    requires { (count ≤ length (entries ids.now runs.now lengths.now offsets.now)) × Stock (part 0 count (entries ids.now runs.now lengths.now offsets.now)) }
-    ensures { Measured count (entries ids.now runs.now lengths.now offsets.now) (leaf_size count (first_size_lem count) (part 0 count (entries ids.now runs.now lengths.now offsets.now))) result }
+pub(crate) fn choose(stores: &Stores) -> Split
+    requires { Stocked stores.now }
+    ensures { Measured stores.now.count (slots stores.now)
+        (leaf_size stores.now.count (first_size_lem stores.now.count) (in_use stores.now)) result }
 {
-    let mut p = measure(count, first_size(count), ids, runs, lengths, offsets);
+    let mut p = measure(stores, first_size(stores.count));
     while 16257 < p.sizes.root {
         let k = p.leaf;
-        p = measure(count, k + k / 5, ids, runs, lengths, offsets);
+        p = measure(stores, k + k / 5);
     }
     p
 }
 
 // The root's ids: those at which a leaf of k entries starts.
-fn put_first_ids(out: &mut [u8], start: usize, ids: &[u64], count: usize, k: usize) -> usize
-    requires { (0 < k) × (count ≤ length ids.now) × Rising 0 (every k 0 (part 0 count ids.now))
-        × (start + length (put_all wide (deltas 0 (every k 0 (part 0 count ids.now)))) ≤ length out.old) }
-    ensures { Wrote out.old start (put_all wide (deltas 0 (every k 0 (part 0 count ids.now)))) out.new result }
+// Stays: beside put_ids, since a step that is not known makes that inner loop slower (build took a fifth longer).
+fn put_first_ids(out: &mut [u8], start: usize, ids: &[u64], k: usize) -> usize
+    requires { (0 < k) × Rising 0 (every k 0 ids.now)
+        × (start + length (put_all wide (deltas 0 (every k 0 ids.now))) ≤ length out.old) }
+    ensures { Wrote out.old start (put_all wide (deltas 0 (every k 0 ids.now))) out.new result }
 {
     let mut at = start;
     let mut prev: u64 = 0;
-    let mut from: usize = 0;
-    while from < count {
-        let id = ids[from];
+    for i in (0..ids.len()).step_by(k) {
+        let id = ids[i];
         at = put_number(out, at, id - prev);
         prev = id;
-        from = leaf_end(from, k, count);
     }
     at
 }
@@ -117,12 +102,8 @@ fn put_zeros(out: &mut [u8], start: usize, n: usize) -> usize
     ensures { Wrote out.old start (replicate n 0) out.new result }
 {
     let end = start + n;
-    let mut at = start;
-    while at < end {
-        out[at] = 0;
-        at += 1;
-    }
-    at
+    out[start..end].fill(0);
+    end
 }
 
 // The root's offset codes: the first leaf lies at 0, and each one follows the one before.
@@ -138,57 +119,37 @@ fn put_codes(out: &mut [u8], start: usize, n: usize) -> usize
 }
 
 // Each leaf, straight into the rest of the leaf buffer, and its length into the root.
-fn put_leaves(
-    root: &mut [u8],
-    start: usize,
-    count: usize,
-    k: usize,
-    ids: &[u64],
-    runs: &[u32],
-    lengths: &[u32],
-    offsets: &[u64],
-    leaves: &mut [u8],
-) -> usize
-    requires { (0 < k) × (count ≤ length (entries ids.now runs.now lengths.now offsets.now)) × Stock (part 0 count (entries ids.now runs.now lengths.now offsets.now))
-        × (start + length (put_all narrow (leaf_lengths (cuts k 0 count (entries ids.now runs.now lengths.now offsets.now)))) ≤ length root.old)
-        × (length (leaves_of (cuts k 0 count (entries ids.now runs.now lengths.now offsets.now))) ≤ length leaves.old) }
-    ensures { Wrote root.old start (put_all narrow (leaf_lengths (cuts k 0 count (entries ids.now runs.now lengths.now offsets.now)))) root.new result
-        × (leaves.new ≡ sets leaves.old 0 (leaves_of (cuts k 0 count (entries ids.now runs.now lengths.now offsets.now)))) }
+fn put_leaves(root: &mut [u8], start: usize, stores: &Stores, k: usize, leaves: &mut [u8]) -> usize
+    requires { (0 < k) × Stocked stores.now
+        × (start + length (put_all narrow (leaf_lengths (cuts k 0 stores.now.count (slots stores.now)))) ≤ length root.old)
+        × (length (leaves_of (cuts k 0 stores.now.count (slots stores.now))) ≤ length leaves.old) }
+    ensures { Wrote root.old start (put_all narrow (leaf_lengths (cuts k 0 stores.now.count (slots stores.now)))) root.new result
+        × (leaves.new ≡ sets leaves.old 0 (leaves_of (cuts k 0 stores.now.count (slots stores.now)))) }
 {
     let mut at = start;
     let mut leaf: usize = 0;
-    let mut from: usize = 0;
-    while from < count {
-        let to = leaf_end(from, k, count);
-        let length = put_entries(ids, runs, lengths, offsets, from, to, &mut leaves[leaf..]);
+    for from in (0..stores.count).step_by(k) {
+        let to = leaf_end(from, k, stores.count);
+        let length = put_entries(stores, from, to, &mut leaves[leaf..]);
         at = put_number(root, at, length as u64);
         leaf += length;
-        from = to;
     }
     at
 }
 
-// A root of n pointers to leaves of k entries, and the leaves.
-pub(crate) fn put_split(
-    count: usize,
-    k: usize,
-    n: usize,
-    ids: &[u64],
-    runs: &[u32],
-    lengths: &[u32],
-    offsets: &[u64],
-    root: &mut [u8],
-    leaves: &mut [u8],
-)
-    requires { (0 < k) × (count ≤ length (entries ids.now runs.now lengths.now offsets.now)) × Stock (part 0 count (entries ids.now runs.now lengths.now offsets.now)) × (n ≡ length (cuts k 0 count (entries ids.now runs.now lengths.now offsets.now)))
-        × (length (encode (pointers 0 (cuts k 0 count (entries ids.now runs.now lengths.now offsets.now)))) ≤ length root.old)
-        × (length (leaves_of (cuts k 0 count (entries ids.now runs.now lengths.now offsets.now))) ≤ length leaves.old) }
-    ensures { (root.new ≡ sets root.old 0 (encode (pointers 0 (cuts k 0 count (entries ids.now runs.now lengths.now offsets.now)))))
-        × (leaves.new ≡ sets leaves.old 0 (leaves_of (cuts k 0 count (entries ids.now runs.now lengths.now offsets.now)))) }
+// A root of pointers to leaves, and the leaves.
+pub(crate) fn put_split(stores: &Stores, split: Split, root: &mut [u8], leaves: &mut [u8])
+    requires { (0 < split.leaf) × Stocked stores.now
+        × Measured stores.now.count (slots stores.now) split.leaf split
+        × (split.sizes.root ≤ length root.old) × (split.sizes.leaves ≤ length leaves.old) }
+    ensures { (root.new ≡ sets root.old 0 (encode (pointers 0 (cuts split.leaf 0 stores.now.count (slots stores.now)))))
+        × (leaves.new ≡ sets leaves.old 0 (leaves_of (cuts split.leaf 0 stores.now.count (slots stores.now)))) }
 {
+    let k = split.leaf;
+    let n = split.pointers;
     let a = put_number(root, 0, n as u64);
-    let b = put_first_ids(root, a, ids, count, k);
+    let b = put_first_ids(root, a, &stores.ids[..stores.count], k);
     let c = put_zeros(root, b, n);
-    let d = put_leaves(root, c, count, k, ids, runs, lengths, offsets, leaves);
+    let d = put_leaves(root, c, stores, k, leaves);
     put_codes(root, d, n);
 }

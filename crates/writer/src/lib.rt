@@ -1,10 +1,5 @@
 // Directories written, and root and leaves made from sorted entries.
-//
-// Stores are lent as four slices, always in the order ids, runs, lengths, offsets.
 #![tactic(auto)]
-
-use acceptance::Counts;
-use refusal::Refusal;
 
 mod building;
 mod columns;
@@ -20,23 +15,4 @@ pub use writing::{encoded_len, write};
 pub struct Sizes {
     pub root: usize,
     pub leaves: usize,
-}
-
-// How many bytes a directory has.
-#[derive(Clone, Copy)]
-pub enum Length {
-    Bytes(usize),
-    Refused(Refusal),
-}
-
-#[derive(Clone, Copy)]
-pub enum Sized {
-    Sizes(Sizes),
-    Refused(Refusal),
-}
-
-#[derive(Clone, Copy)]
-pub enum Built {
-    Done(Sizes, Counts),
-    Refused(Refusal),
 }

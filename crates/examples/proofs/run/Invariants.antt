@@ -1,9 +1,6 @@
-use Rattle.std.proofs.Common.{length, ◌-◌, ◌≤◌}
+use Rattle.std.proofs.Common.{length}
 use Rattle.examples.proofs.run.Given as goal
 
--- Each example ends behind where it starts.
-abbrev pub invariant-loop-at : goal.invariant-loop-at
-invariant-loop-at g l = l.at ≤ length l.list
-
-abbrev pub decreases-loop-at : goal.decreases-loop-at
-decreases-loop-at g l = length l.list - l.at
+-- What is left of the list.
+abbrev pub decreases-loop-example : goal.decreases-loop-example
+decreases-loop-example g l = length l.list

@@ -2,14 +2,13 @@
 use Prim.Native.Nat.{ℕ, zero, suc, ◌+◌, ◌-◌, ◌*◌, ◌/◌, ◌^◌, ◌≤◌, ◌<◌}
 use mathlib.Core.Path.{◌≡◌, ap, ◌∙◌}
 use native.Mathlib.Omega.{arith}
-use lib.Count.{leading_le, leading_of_zero, leading_top, count_leading_zeros}
+use lib.Count.{leading_of_zero, leading_top, count_leading_zeros}
 use lib.ListN.{length}
 use lib.Pow.{pow-add, pow_mono, pow_pos}
 use Rattle.varint.specs.Varint.{put, wide}
 use Rattle.varint.proofs.Shortest.{put-more, put_one}
 use Rattle.varint.proofs.size.Goals as goal
 
--- `varint::size` meets its contract: 1 + 9 * n / 64 counts the groups of seven among n bits, up to 64. Assumes nothing.
 seven : (k : ℕ) → 2 ^ (7 * suc k) ≡ 128 * 2 ^ (7 * k)
 seven k = let e : 7 * suc k ≡ 7 + 7 * k = omega arith in ap (λ (i : ℕ). 2 ^ i) e ∙ pow-add 2 7 (7 * k)
 
@@ -30,12 +29,6 @@ flat (suc x) h =
     let hi = pow_mono {i = suc j} {j = 7 * suc (j / 7)} (omega arith) in
     let e = by_bits (j / 7) (suc x) h (omega arith) (omega arith) in
     omega arith
-
-pub overflow_mul-result : goal.overflow_mul-result
-overflow_mul-result c = record { fits = omega (arith, leading_le 64 c.args.x) }
-
-pub overflow_sub-result : goal.overflow_sub-result
-overflow_sub-result c = omega (arith, leading_le 64 c.args.x)
 
 pub returns : goal.returns
 returns c = flat c.args.x c.ranges.x.fits

@@ -1,16 +1,12 @@
 -- `columns::read_offsets` meets its contract. Assumes nothing.
-use Prim.Native.Nat.{◌-◌}
 use mathlib.Core.Option.{none}
-use lib.ListN.{take}
+use lib.ListN.{drop}
 use Rattle.varint.specs.Varint.{wide}
 use Rattle.directory.specs.Columns.{offset_step}
-use Rattle.directory.proofs.Turns.{Filled, offset_state}
+use Rattle.directory.specs.Answers.{end_after}
+use Rattle.directory.proofs.Turns.{Filled}
 use Rattle.directory.proofs.columns.read_offsets.Given as goal
 
 abbrev pub invariant-loop-i : goal.invariant-loop-i
 invariant-loop-i l =
-    Filled wide offset_step l.n (none, take l.n l.lengths) l.bytes l.initial.c.at l.initial.offsets l.i (offset_state l.lengths l.n l.i l.prev l.len) l.c.at l.offsets
-
-abbrev pub decreases-loop-i : goal.decreases-loop-i
-decreases-loop-i l =
-    l.n - l.i
+    Filled wide offset_step (none, l.lengths) l.bytes l.initial.at.at l.initial.offsets l.i (end_after l.before, drop l.i l.lengths) l.at.at l.offsets

@@ -1,25 +1,24 @@
--- `stores::find_tile_id` meets its contract. Assumes nothing.
-use mathlib.Core.Path.{ap, sym, ◌∙◌}
+-- `stores::find_tile_id` meets its contract: halving finds the last entry whose id is at most the target. Assumes nothing.
+use mathlib.Core.Path.{◌∙◌}
 use native.Mathlib.Omega.{arith}
-use Rattle.directory.specs.Answers.{said_checked}
-use Rattle.search.proofs.Finding.{holds, no-entries, no_target, searched}
+use borrow.Author.Rules.{rules}
+use lib.Dec.{leb}
+use Rattle.std.proofs.lemmas.List.Sorted.{IsPartitionPoint-from_clause}
+use Rattle.search.proofs.Finding.{halved, none_found, one_found}
 use Rattle.search.proofs.stores.find_tile_id.Goals as goal
 
-pub returns-then-t-gt-MAX_TILE_ID : goal.returns-then-t-gt-MAX_TILE_ID
-returns-then-t-gt-MAX_TILE_ID c = no_target _ _ _ _ _ _ (omega arith)
+pub returns-in_default : goal.returns-in_default
+returns-in_default c =
+    let s = c.args.stores.now in
+    let t = c.value-t.result in
+    let j = c.in_ok-check_stores.ensures in
+    let w = IsPartitionPoint-from_clause (λ id. leb id t) _ _ c.partition_point-above.ensures.partitioned (halved s.count s.ids.now s.runs.now s.lengths.now s.offsets.now j t) (λ a r q k. search rules) in
+    rw c.value-t.ensures at (none_found s.count s.ids.now s.runs.now s.lengths.now s.offsets.now j t (omega arith) _ w (omega (arith, c.in_default.ensures)))
 
-pub search_in-requires : goal.search_in-requires
-search_in-requires c =
-    let a = c.args in
-    (holds a.count a.ids.now a.runs.now a.lengths.now a.offsets.now (ap said_checked (sym c.in-Next.is) ∙ c.check_stores.ensures), c.if-t-gt-MAX_TILE_ID.false)
-
-pub returns-in-Next : goal.returns-in-Next
-returns-in-Next c =
-    let a = c.args in
-    rw c.value-t.ensures at c.search_in.ensures
-    ∙ searched a.count a.ids.now a.runs.now a.lengths.now a.offsets.now a.target.0 (omega arith) (ap said_checked (sym c.in-Next.is) ∙ c.check_stores.ensures)
-
-pub returns-in-Refused : goal.returns-in-Refused
-returns-in-Refused c =
-    let a = c.args in
-    no-entries a.count a.ids.now a.runs.now a.lengths.now a.offsets.now a.target.0 (omega arith) (ap said_checked (sym c.in-Refused.is) ∙ c.check_stores.ensures)
+pub returns : goal.returns
+returns c =
+    let s = c.args.stores.now in
+    let t = c.value-t.result in
+    let j = c.in_ok-check_stores.ensures in
+    let w = IsPartitionPoint-from_clause (λ id. leb id t) _ _ c.partition_point-above.ensures.partitioned (halved s.count s.ids.now s.runs.now s.lengths.now s.offsets.now j t) (λ a r q k. search rules) in
+    rw c.value-t.ensures at (c.answer.ensures ∙ one_found s.count s.ids.now s.runs.now s.lengths.now s.offsets.now j t (omega arith) _ w c.in-Some.i (omega arith) (omega arith))

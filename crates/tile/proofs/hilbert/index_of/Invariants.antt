@@ -6,6 +6,3 @@ use Rattle.tile.proofs.hilbert.index_of.Given as goal
 
 abbrev pub invariant-loop-i : goal.invariant-loop-i
 invariant-loop-i l = (l.i ≤ l.z) × (l.w.x < 2 ^ l.i) × (l.w.y < 2 ^ l.i) × (l.w.h * 4 ^ l.i + index l.i l.w.x l.w.y ≡ index l.z l.x l.y)
-
-abbrev pub decreases-loop-i : goal.decreases-loop-i
-decreases-loop-i l = l.i

@@ -1,11 +1,8 @@
 -- `hilbert::place_of` meets its contract. Assumes nothing.
-use Prim.Native.Nat.{◌-◌, ◌^◌, ◌%◌, ◌≤◌}
+use Prim.Native.Nat.{◌^◌, ◌%◌}
 use mathlib.Core.Path.{◌≡◌}
 use Rattle.tile.specs.Tile.{place}
 use Rattle.tile.proofs.hilbert.place_of.Given as goal
 
 abbrev pub invariant-loop-i : goal.invariant-loop-i
-invariant-loop-i l = (l.i ≤ l.z) × ((l.p.x, l.p.y) ≡ place l.i (l.h % 4 ^ l.i))
-
-abbrev pub decreases-loop-i : goal.decreases-loop-i
-decreases-loop-i l = l.z - l.i
+invariant-loop-i l = (l.p.x, l.p.y) ≡ place l.i (l.h % 4 ^ l.i)

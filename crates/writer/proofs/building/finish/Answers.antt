@@ -1,82 +1,44 @@
 -- `building::finish` meets its contract. Assumes nothing.
-use Prim.Native.Nat.{◌<◌}
-use mathlib.Core.Path.{ap}
+use mathlib.Core.Path.{ap, ◌∙◌}
 use native.Mathlib.Omega.{arith}
-use lib.ListN.{length}
-use Rattle.directory.specs.Columns.{entries}
-use Rattle.writer.specs.Answers.{fitted}
-use Rattle.writer.specs.Cells.{part}
-use Rattle.writer.proofs.Finished.{both-fit, built-flat, built-split, finished, fitted-sound, no_room, refused}
-use Rattle.writer.proofs.Stocks.{stock-ready}
+use Rattle.writer.specs.Cells.{in_use, slots}
+use Rattle.writer.specs.declared.Sizes.{Sizes}
+use Rattle.writer.proofs.Finished.{both-laid, leaves-short, root-short}
+use Rattle.writer.proofs.Plans.{planned-sizes, split-is}
+use Rattle.writer.proofs.Stocks.{accepts-ready}
 use Rattle.writer.proofs.building.finish.Goals as goal
+use Rattle.writer.proofs.building.finish.Goals.{then-root-sizes-via-then-root-sizes, then-root-sizes-via-else-root-sizes+then-leaves-sizes}
 
-pub plan-p-requires : goal.plan-p-requires
-plan-p-requires c = c.requires
+pub returns-then-root-sizes : goal.returns-then-root-sizes
+returns-then-root-sizes c =
+    let a = c.args in
+    let s = a.stores.now in
+    let z = c.sizes-sizes.ensures ∙ planned-sizes (slots s) s.count c.requires.inside c.plan-p.result c.plan-p.ensures in
+    elim c.then-root-sizes.branch [
+      | then-root-sizes-via-then-root-sizes w ↦ root-short (in_use s) a.root.now a.leaves.now c.sizes-sizes.result z w.if-root-sizes.true
+      | then-root-sizes-via-else-root-sizes+then-leaves-sizes w ↦ leaves-short (in_use s) a.root.now a.leaves.now c.sizes-sizes.result z w.if-root-sizes.false w.if-leaves-sizes.true
+    ]
 
 pub put_entries-requires : goal.put_entries-requires
 put_entries-requires c =
-    let a = c.args in
-    let es = entries a.ids.now a.runs.now a.lengths.now a.offsets.now in
-    let p = c.plan-p.result in
-    let q = c.plan-p.ensures in
-    let m = c.requires.0 in
-    let e = both-fit (part 0 a.count es) (length a.root.now) (length a.leaves.now) p.sizes q.sizes _ c.has_room.ensures c.if-has_room.true in
-    let g = fitted-sound (part 0 a.count es) (length a.root.now) (length a.leaves.now) (part 0 a.count es) e in
-    let flat = built-flat a.count es m p q c.if-k-eq0.true in (
-      stock-ready a.count es m c.requires.1 0 a.count (omega arith) (omega arith),
-      omega (arith, g.0, ap (λ d. length d.root) flat),
-    )
+    let s = c.args.stores.now in
+    let q = rw c.in-Root.is at c.plan-p.ensures in
+    let z = ap (λ (x : Sizes). x.root) (rw c.in-Root.is at c.sizes-sizes.ensures) in
+    (accepts-ready s.count (slots s) c.requires.inside c.requires.accepts 0 s.count (omega arith) (omega arith), omega (arith, q.1, z))
 
-pub returns-then-k-eq0 : goal.returns-then-k-eq0
-returns-then-k-eq0 c =
+pub returns-in-Root : goal.returns-in-Root
+returns-in-Root c =
     let a = c.args in
-    let es = entries a.ids.now a.runs.now a.lengths.now a.offsets.now in
-    let p = c.plan-p.result in
-    let q = c.plan-p.ensures in
-    let m = c.requires.0 in
-    let e = both-fit (part 0 a.count es) (length a.root.now) (length a.leaves.now) p.sizes q.sizes _ c.has_room.ensures c.if-has_room.true in
-    let g = fitted-sound (part 0 a.count es) (length a.root.now) (length a.leaves.now) (part 0 a.count es) e in
-    let flat = built-flat a.count es m p q c.if-k-eq0.true in
-    finished (fitted (part 0 a.count es) (length a.root.now) (length a.leaves.now)) (λ _. a.counts) a.root.now a.leaves.now (part 0 a.count es) e g.0 g.1 _ a.leaves.now
-    (rw flat c.put_entries.ensures.held) (rw flat) p.sizes q.sizes
+    let s = a.stores.now in
+    let q = rw c.in-Root.is at c.plan-p.ensures in
+    let z = c.sizes-sizes.ensures ∙ planned-sizes (slots s) s.count c.requires.inside c.plan-p.result c.plan-p.ensures in
+    both-laid (in_use s) a.root.now a.leaves.now c.sizes-sizes.result z c.if-root-sizes.false c.if-leaves-sizes.false _ _ (rw q.0 c.put_entries.ensures.held) (rw q.0)
 
-pub put_split-requires : goal.put_split-requires
-put_split-requires c =
+pub returns-in-Leaves : goal.returns-in-Leaves
+returns-in-Leaves c =
     let a = c.args in
-    let es = entries a.ids.now a.runs.now a.lengths.now a.offsets.now in
-    let p = c.plan-p.result in
-    let q = c.plan-p.ensures in
-    let m = c.requires.0 in
-    let e = both-fit (part 0 a.count es) (length a.root.now) (length a.leaves.now) p.sizes q.sizes _ c.has_room.ensures c.if-has_room.true in
-    let g = fitted-sound (part 0 a.count es) (length a.root.now) (length a.leaves.now) (part 0 a.count es) e in
-    let some : 0 < p.leaf = omega (arith, c.if-k-eq0.false) in
-    let split = built-split a.count es m p q some in (
-      some,
-      m,
-      c.requires.1,
-      q.many some,
-      omega (arith, g.0, ap (λ d. length d.root) split),
-      omega (arith, g.1, ap (λ d. length d.leaves) split),
-    )
-
-pub returns-then-has_room : goal.returns-then-has_room
-returns-then-has_room c =
-    let a = c.args in
-    let es = entries a.ids.now a.runs.now a.lengths.now a.offsets.now in
-    let p = c.plan-p.result in
-    let q = c.plan-p.ensures in
-    let m = c.requires.0 in
-    let e = both-fit (part 0 a.count es) (length a.root.now) (length a.leaves.now) p.sizes q.sizes _ c.has_room.ensures c.if-has_room.true in
-    let g = fitted-sound (part 0 a.count es) (length a.root.now) (length a.leaves.now) (part 0 a.count es) e in
-    let split = built-split a.count es m p q (omega (arith, c.if-k-eq0.false)) in
-    finished (fitted (part 0 a.count es) (length a.root.now) (length a.leaves.now)) (λ _. a.counts) a.root.now a.leaves.now (part 0 a.count es) e g.0 g.1 _ _
-    (rw split c.put_split.ensures.0) (rw split c.put_split.ensures.1) p.sizes q.sizes
-
-pub returns : goal.returns
-returns c =
-    let a = c.args in
-    let es = entries a.ids.now a.runs.now a.lengths.now a.offsets.now in
-    let p = c.plan-p.result in
-    let q = c.plan-p.ensures in
-    refused (fitted (part 0 a.count es) (length a.root.now) (length a.leaves.now)) (λ _. a.counts) a.root.now a.leaves.now _
-    (no_room (part 0 a.count es) (length a.root.now) (length a.leaves.now) p.sizes q.sizes _ c.has_room.ensures c.if-has_room.false)
+    let s = a.stores.now in
+    let q = rw c.in-Leaves.is at c.plan-p.ensures in
+    let z = c.sizes-sizes.ensures ∙ planned-sizes (slots s) s.count c.requires.inside c.plan-p.result c.plan-p.ensures in
+    let b = split-is (slots s) s.count c.requires.inside c.in-Leaves.split.leaf q.2 in
+    both-laid (in_use s) a.root.now a.leaves.now c.sizes-sizes.result z c.if-root-sizes.false c.if-leaves-sizes.false _ _ (rw b c.put_split.ensures.0) (rw b c.put_split.ensures.1)

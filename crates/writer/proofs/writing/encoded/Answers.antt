@@ -1,78 +1,57 @@
 -- `writing::encoded` meets its contract. The loop keeps that the checks of the rest are those of the whole, and so with the sizes. Assumes nothing.
 use Prim.Native.Nat.{ℕ}
-use mathlib.Core.Path.{◌≡◌, refl, ap, sym, ◌∙◌}
+use mathlib.Core.Path.{◌≡◌, refl, ap, ◌∙◌}
 use native.Mathlib.Omega.{arith}
 use lib.ListN.{length}
 use Rattle.refusal.specs.Out.{ok}
 use Rattle.varint.specs.Varint.{put, wide}
 use Rattle.varint.proofs.Shortest.{put-size}
-use Rattle.directory.specs.Columns.{entries}
+use Rattle.directory.specs.Answers.{end_after, row_entry}
 use Rattle.directory.specs.Encode.{encode}
-use Rattle.directory.specs.Answers.{said_checked}
-use Rattle.writer.specs.Cells.{end_at, part, size_from}
+use Rattle.writer.specs.Cells.{in_use, part, size_from, slots}
 use Rattle.writer.proofs.Coded.{all-bad, all_done, all-on, coded-sound}
 use Rattle.writer.proofs.Lengths.{encode-length, size-more, size_none, size_small}
-use Rattle.writer.proofs.Parts.{cell-more, cell_at, entries-length, part_length, part_none}
+use Rattle.writer.proofs.Parts.{part_length, part_none, row-more}
 use Rattle.writer.proofs.writing.encoded.Goals as goal
 
 pub loop-i-init : goal.loop-i-init
 loop-i-init c =
-    let a = c.args in
-    let es = entries a.ids.now a.runs.now a.lengths.now a.offsets.now in
-    let l : length (part 0 a.count es) ≡ a.count = omega (arith, part_length es 0 a.count c.requires.1) in
-    (omega arith, omega (arith, put-size wide a.count), omega (arith, c.size-sum.ensures, encode-length (part 0 a.count es), ap (λ (n : ℕ). length (put wide n)) l), refl)
+    let s = c.args.stores.now in
+    let l : length (in_use s) ≡ s.count = omega (arith, part_length (slots s) 0 s.count c.requires.1) in
+    (omega arith, omega (arith, put-size wide s.count), omega (arith, c.size-sum.ensures, encode-length (in_use s), ap (λ (n : ℕ). length (put wide n)) l), refl)
 
-pub bounds-ids-i : goal.bounds-ids-i
-bounds-ids-i c = let a = c.args in omega (arith, c.requires.1, entries-length a.ids.now a.runs.now a.lengths.now a.offsets.now)
-
-pub bounds-runs-i : goal.bounds-runs-i
-bounds-runs-i c = let a = c.args in omega (arith, c.requires.1, entries-length a.ids.now a.runs.now a.lengths.now a.offsets.now)
-
-pub bounds-lengths-i : goal.bounds-lengths-i
-bounds-lengths-i c = let a = c.args in omega (arith, c.requires.1, entries-length a.ids.now a.runs.now a.lengths.now a.offsets.now)
-
-pub bounds-offsets-i : goal.bounds-offsets-i
-bounds-offsets-i c = let a = c.args in omega (arith, c.requires.1, entries-length a.ids.now a.runs.now a.lengths.now a.offsets.now)
-
-pub returns-in-Refused : goal.returns-in-Refused
-returns-in-Refused c =
-    let a = c.args in
+pub returns-in_err-lo : goal.returns-in_err-lo
+returns-in_err-lo c =
+    let s = c.args.stores.now in
     let l = c.loop-i in
-    let es = entries a.ids.now a.runs.now a.lengths.now a.offsets.now in
-    let m = cell-more a.ids.now a.runs.now a.lengths.now a.offsets.now l.i a.count c.requires.1 c.loop-i-test.true in
-    let k = ap said_checked (sym c.in-Refused.is) ∙ c.check_coded.ensures in
-    all-bad l.lo (end_at l.end) (part l.i a.count es) (ok (length (encode (part 0 a.count es)))) l.invariant.3 m k
+    let m = row-more s l.i s.count c.requires.1 c.loop-i-test.true c.row_at-row.result c.row_at-row.ensures in
+    let k = all-bad l.lo (end_after l.before) (part l.i s.count (slots s)) (ok (length (encode (in_use s)))) l.invariant.3 m c.in_err-lo.ensures in
+    grind arith
 
 pub entry_size-sum-requires : goal.entry_size-sum-requires
-entry_size-sum-requires c =
-    let g = coded-sound c.loop-i.lo (end_at c.loop-i.end) _ _ (ap said_checked (sym c.in-Next.is) ∙ c.check_coded.ensures) in
-    (omega (arith, g.0.low), g.1)
+entry_size-sum-requires c = let g = coded-sound c.loop-i.lo (end_after c.loop-i.before) _ _ c.in_ok-lo.ensures in (omega (arith, g.0.low), g.1)
 
 pub overflow_add-sum : goal.overflow_add-sum
 overflow_add-sum c =
-    let a = c.args in
-    record { fits = omega (arith, c.requires.0, c.entry_size-sum.ensures, size_small c.loop-i.prev (end_at c.loop-i.end) (cell_at a.ids.now a.runs.now a.lengths.now a.offsets.now c.loop-i.i)) }
+    record { fits = omega (arith, c.requires.0, c.entry_size-sum.ensures, size_small c.loop-i.prev (end_after c.loop-i.before) (row_entry c.row_at-row.result)) }
 
 pub loop-i-preserved : goal.loop-i-preserved
 loop-i-preserved c =
-    let a = c.args in
+    let s = c.args.stores.now in
     let l = c.loop-i in
-    let es = entries a.ids.now a.runs.now a.lengths.now a.offsets.now in
-    let e = cell_at a.ids.now a.runs.now a.lengths.now a.offsets.now l.i in
-    let m = cell-more a.ids.now a.runs.now a.lengths.now a.offsets.now l.i a.count c.requires.1 c.loop-i-test.true in
-    let k = ap said_checked (sym c.in-Next.is) ∙ c.check_coded.ensures in
-    let g = coded-sound l.lo (end_at l.end) e _ k in (
+    let e = row_entry c.row_at-row.result in
+    let m = row-more s l.i s.count c.requires.1 c.loop-i-test.true c.row_at-row.result c.row_at-row.ensures in
+    let g = coded-sound l.lo (end_after l.before) e _ c.in_ok-lo.ensures in (
       omega (arith, g.2),
-      omega (arith, c.entry_size-sum.ensures, size_small l.prev (end_at l.end) e),
-      omega (arith, c.entry_size-sum.ensures, ap (size_from l.prev (end_at l.end)) m ∙ size-more l.prev (end_at l.end) e _),
-      all-on l.lo (end_at l.end) (part l.i a.count es) (ok (length (encode (part 0 a.count es)))) l.invariant.3 m k,
+      omega (arith, c.entry_size-sum.ensures, size_small l.prev (end_after l.before) e),
+      omega (arith, c.entry_size-sum.ensures, ap (size_from l.prev (end_after l.before)) m ∙ size-more l.prev (end_after l.before) e _),
+      all-on l.lo (end_after l.before) (part l.i s.count (slots s)) (ok (length (encode (in_use s)))) l.invariant.3 m c.in_ok-lo.ensures,
     )
 
 pub returns : goal.returns
 returns c =
-    let a = c.args in
+    let s = c.args.stores.now in
     let l = c.loop-i in
-    let es = entries a.ids.now a.runs.now a.lengths.now a.offsets.now in
-    let n = part_none es l.i a.count c.loop-i-test.false in
-    let z : l.sum ≡ length (encode (part 0 a.count es)) = omega (arith, ap (size_from l.prev (end_at l.end)) n ∙ size_none l.prev (end_at l.end)) in
-    ap ok z ∙ all_done l.lo (end_at l.end) (part l.i a.count es) (ok (length (encode (part 0 a.count es)))) l.invariant.3 n
+    let n = part_none (slots s) l.i s.count c.loop-i-test.false in
+    let z : l.sum ≡ length (encode (in_use s)) = omega (arith, ap (size_from l.prev (end_after l.before)) n ∙ size_none l.prev (end_after l.before)) in
+    ap ok z ∙ all_done l.lo (end_after l.before) (part l.i s.count (slots s)) (ok (length (encode (in_use s)))) l.invariant.3 n
