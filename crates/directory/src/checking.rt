@@ -10,6 +10,7 @@ use crate::{MAX_ENTRIES, Offset, Row, Stores};
 use refusal::Refusal;
 
 // A count that a directory may have, in stores that are long enough: any id may come first.
+// Stays: `Ok` has always 0, because the public clause of `check_count` says `ok 0`, which may not change.
 pub fn check_count(stores: &Stores) -> Result<u64, Refusal>
     ensures { said_checked result ≡ over stores.now counting (ok 0) }
 {
@@ -27,13 +28,13 @@ pub fn check_count(stores: &Stores) -> Result<u64, Refusal>
 }
 
 // The entries in the slots that count.
-// Stays: a row is made here, and in search, acceptance and writer: a public function could not ask for the slot.
 #[tactic(auto, using(crate::proofs::Slots::passing))]
 pub(crate) fn check_entries(stores: &Stores) -> Result<u64, Refusal>
     requires { stores.now.count ≤ over stores.now (λ n. shortest) }
     ensures { said_checked result ≡ checked_all 0 (over stores.now stored) }
 {
     let mut lo: u64 = 0;
+    // Stays: rows by index: over zipped slices the proof did not close; a public function could not ask for a slot.
     for i in 0..stores.count {
         let row = Row {
             id: stores.ids[i],

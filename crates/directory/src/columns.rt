@@ -11,6 +11,7 @@ use refusal::Refusal;
 use varint::Cursor;
 
 // Ids: differences, summed from 0.
+// Stays: three loops of one shape: one over a closure would need a contract on what the closure's calls answer.
 #[tactic(auto, using(crate::proofs::Turns::turn))]
 pub(crate) fn read_ids(bytes: &[u8], from: Cursor, ids: &mut [u64]) -> Result<Cursor, Refusal>
     ensures { said_column result ids.new ≡ column_at wide id_step (length ids.old) 0 bytes.now from.at }
@@ -53,6 +54,7 @@ pub(crate) fn read_offsets(
 {
     let mut at = from;
     let mut before: Option<Extent> = None;
+    // Stays: zipped with the lengths, the invariant cannot name the store that it fills: the proof did not close.
     for (i, slot) in offsets.iter_mut().enumerate() {
         let (code, next) = at.read_u64(bytes)?;
         let offset = offset_of(before, code)?;

@@ -15,7 +15,7 @@ pub use reading::read;
 // No directory has more.
 pub const MAX_ENTRIES: usize = 16777216;
 
-// A place in the tile data, or in the section of leaves.
+// A place in the tile data, in the section of leaves, or, in reader, in the archive.
 #[derive(Clone, Copy, Debug, PartialEq, Eq)]
 pub struct Offset(pub u64);
 
@@ -35,7 +35,7 @@ pub struct DirEntry {
     pub offset: Offset,
 }
 
-// An entry whose checks are still to come: its id may lie above the largest.
+// An entry whose checks are still to come: a DirEntry but for its id, which may lie above the largest that is a tile's.
 #[derive(Clone, Copy, Debug, PartialEq, Eq)]
 pub struct Row {
     pub id: u64,
@@ -45,7 +45,7 @@ pub struct Row {
 }
 
 // Four stores, always in this order, of which the first `count` slots count.
-// Stays: four slices side by side, and not one of rows, because C lends them so (include/pmtiles.h).
+// Stays: `count` and four slices side by side, and not one of rows, because C lends them so (include/pmtiles.h).
 #[derive(Clone, Copy)]
 pub struct Stores<'a> {
     pub count: usize,

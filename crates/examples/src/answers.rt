@@ -3,7 +3,7 @@ use crate::print::word;
 use crate::{building, directories, headers, publishing, tiles, varints, writing};
 use std::io;
 
-// Stays: an enum of the kinds would list each twice, here and where the letter is read; this is the one place that reads it.
+// Stays: the kind is a byte of the list; an enum would name each kind twice, here and where the byte is read.
 pub(crate) fn answer(rt: &impl Print, kind: u8, p: &[u8], s: &[u8]) -> io::Result<()> {
     match kind {
         b'v' => varints::wide(rt, p, s),

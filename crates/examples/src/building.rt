@@ -6,17 +6,18 @@ use std::{array, io};
 
 const ROWS: usize = 4064;
 
+// The rows, column by column, as `Stores` lends them.
 #[derive(Drop)]
-struct Rows {
+struct Columns {
     ids: [u64; ROWS],
     runs: [u32; ROWS],
     lengths: [u32; ROWS],
     offsets: [u64; ROWS],
 }
 
-impl Rows {
-    fn new() -> Rows {
-        Rows {
+impl Columns {
+    fn new() -> Columns {
+        Columns {
             ids: array::from_fn(|i| i as u64),
             runs: [1; ROWS],
             lengths: [5; ROWS],
@@ -37,8 +38,8 @@ impl Rows {
 
 // `S COUNT DATA`: how long root and leaves of so many rows are, over so much data.
 pub(crate) fn measure(rt: &impl Print, p: &[u8]) -> io::Result<()> {
-    let rows = Rows::new();
-    let stores = rows.stores(word(p, 0) as usize);
+    let columns = Columns::new();
+    let stores = columns.stores(word(p, 0) as usize);
     told(
         rt,
         writer::build_sizes(&stores, word(p, 10)),
@@ -46,11 +47,11 @@ pub(crate) fn measure(rt: &impl Print, p: &[u8]) -> io::Result<()> {
     )
 }
 
-// `B ROOT LEAVES`: all rows built into so many bytes that hold 9s: how long root and leaves are, how many entries and tiles;
-// the root's eight bytes; four of the leaves' at 0, four at 16256.
+// `B ROOT LEAVES`: all rows built into so many bytes that hold 9s: how long root and leaves are, how many entries and
+// tiles; the root's eight bytes; four of the leaves' at 0, four at 16256.
 pub(crate) fn build(rt: &impl Print, p: &[u8]) -> io::Result<()> {
-    let rows = Rows::new();
-    let stores = rows.stores(ROWS);
+    let columns = Columns::new();
+    let stores = columns.stores(ROWS);
     let mut root = [9u8; 8];
     let mut leaves = [9u8; 16384];
     let a = root.get_mut(..word(p, 0) as usize);

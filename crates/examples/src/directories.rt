@@ -4,10 +4,11 @@ ghost use Rattle.std.specs.Prelude.{◌≤◌};
 use crate::print::told;
 use crate::tiles::row;
 use directory::{Offset, Row};
-use std::io;
+use std::{io, iter};
 
-// `d`, with a slot for three lengths: how many entries, how many bytes, and the slots after it. `u`: the same into stores of
-// unequal lengths, where one length's slot is to be had: all are cleared, whole.
+// `d`, with a slot for three lengths: how many entries, how many bytes, and the slots after it. `u`: the same into
+// stores of unequal lengths, where one length's slot is to be had: all are cleared, whole. A length with no slot is
+// printed as 0.
 pub(crate) fn read<const LENGTHS: usize>(rt: &impl Print, s: &[u8]) -> io::Result<()>
     requires { LENGTHS ≤ 3 }
 {
@@ -17,14 +18,15 @@ pub(crate) fn read<const LENGTHS: usize>(rt: &impl Print, s: &[u8]) -> io::Resul
     let mut offsets = [9u64; 3];
     let answer = directory::read(s, &mut ids, &mut runs, &mut lengths, &mut offsets);
     told(rt, answer, |(n, used)| print!(rt; " {n} {used}"))?;
-    for i in 0..3 {
+    let lengths = lengths.iter().chain(iter::repeat(&0));
+    for (((id, run), length), offset) in ids.iter().zip(&runs).zip(lengths).zip(&offsets) {
         row(
             rt,
             Row {
-                id: ids[i],
-                run_length: runs[i],
-                length: lengths.get(i).copied().unwrap_or(0),
-                offset: Offset(offsets[i]),
+                id: *id,
+                run_length: *run,
+                length: *length,
+                offset: Offset(*offset),
             },
         )?;
     }

@@ -1,6 +1,6 @@
-// The worked examples of the format, run. stdin holds them, made from records.txt by make-stdin: one input after another,
-// each with its name. A line is printed for each, the name and what the core says; what must be printed stands in the file
-// stdout, written by hand from the format's rules.
+// The worked examples of the format, run. stdin holds them, made from records.txt by make-stdin: one input after
+// another, each with its name. A line is printed for each, the name and what the core says; what must be printed stands
+// in the file stdout, written by hand from the format's rules.
 #![tactic(auto)]
 
 ghost use Rattle.std.specs.Prelude.{◌<◌, length, IfSome};
@@ -29,8 +29,8 @@ struct Example<'a> {
     bytes: &'a [u8],
 }
 
-// The example that a list begins with, and the list behind it: its kind; the sizes of its name, numbers and bytes, lowest byte
-// first; and these three.
+// The example that a list begins with, and the list behind it: its kind; the sizes of its name, numbers and bytes,
+// lowest byte first; and these three.
 fn first(list: &[u8]) -> Option<(Example<'_>, &[u8])>
     ensures { IfSome result (λ r. length r.1.now < length list.now) }
 {
@@ -48,6 +48,7 @@ fn first(list: &[u8]) -> Option<(Example<'_>, &[u8])>
     Some((example, rest))
 }
 
+// Stays: also `replay` of replay/src/main.rt; a crate for these few lines would be longer than they are.
 fn run(rt: &impl Print, list: &[u8]) -> io::Result<()> {
     let mut list = list;
     while let Some((example, rest)) = first(list) {
@@ -58,6 +59,7 @@ fn run(rt: &impl Print, list: &[u8]) -> io::Result<()> {
     Ok(())
 }
 
+// Stays: also in replay/src/main.rt; a crate for these three lines would be longer than they are.
 fn main(rt: HostRuntime) -> io::Result<()> {
     let mut list = Vec::new(rt.alloc());
     rt.reader().take(MOST).read_to_end(&mut list)?;

@@ -16,6 +16,7 @@ pub(crate) fn small(p: &[u8], at: usize) -> u8 {
     (word(p, at) % 256) as u8
 }
 
+// Stays: also in replay/src/answers.rt, without the space; a crate for these few lines would be longer than they are.
 pub(crate) fn hex(rt: &impl Print, s: &[u8]) -> io::Result<()> {
     for b in s {
         print!(rt; " {b:02x}")?;

@@ -4,6 +4,7 @@ use crate::tiles::lookup;
 use acceptance::Counts;
 use header::Header;
 use publisher::{Lengths, Parts, Settings};
+use reader::Located;
 use refusal::Refusal;
 use std::io;
 use tile::{TileCoord, TileId};
@@ -43,7 +44,12 @@ fn publish(
     publisher::publish(settings, counts, &parts, dest, position, budget)
 }
 
-fn stores(tiles: &[u8], dest: &mut [u8], position: u64, budget: u64) -> Result<u64, Refusal> {
+fn publish_tiles(
+    tiles: &[u8],
+    dest: &mut [u8],
+    position: u64,
+    budget: u64,
+) -> Result<u64, Refusal> {
     publish(
         settings(1, 1),
         b"\x01\x00\x01\x05\x01",
@@ -54,37 +60,34 @@ fn stores(tiles: &[u8], dest: &mut [u8], position: u64, budget: u64) -> Result<u
     )
 }
 
-fn older(dest: &mut [u8]) -> Result<u64, Refusal> {
-    stores(b"older", dest, 0, 16523)
+fn publish_older(dest: &mut [u8]) -> Result<u64, Refusal> {
+    publish_tiles(b"older", dest, 0, 16523)
 }
 
-fn newer(dest: &mut [u8], position: u64, budget: u64) -> Result<u64, Refusal> {
-    stores(b"newer", dest, position, budget)
+fn publish_newer(dest: &mut [u8], position: u64, budget: u64) -> Result<u64, Refusal> {
+    publish_tiles(b"newer", dest, position, budget)
 }
 
-fn id_refused(dest: &[u8], id: u64) -> bool {
-    let found = TileId::new(id).and_then(|t| reader::lookup(dest, t));
-    matches!(found, Err(Refusal::InvalidMagicNumber))
-}
-
-fn coord_refused(dest: &[u8], z: u8, x: u32, y: u32) -> bool {
-    let found = TileCoord::new(z, x, y).and_then(|c| reader::lookup_coord(dest, c));
+fn is_bad_magic(found: Result<Option<Located>, Refusal>) -> bool {
     matches!(found, Err(Refusal::InvalidMagicNumber))
 }
 
 // Tiles that the archives have, that they lack, and the last of all: whether each is refused as bad magic.
 fn all_refused(dest: &[u8]) -> bool {
-    id_refused(dest, 0)
-        && id_refused(dest, 1)
-        && id_refused(dest, TileId::MAX_TILE_ID)
-        && coord_refused(dest, 0, 0, 0)
-        && coord_refused(dest, 31, 5, 7)
+    let by_id = |id| TileId::new(id).and_then(|t| reader::lookup(dest, t));
+    let by_coord = |z, x, y| TileCoord::new(z, x, y).and_then(|c| reader::lookup_coord(dest, c));
+    is_bad_magic(by_id(0))
+        && is_bad_magic(by_id(1))
+        && is_bad_magic(by_id(TileId::MAX_TILE_ID))
+        && is_bad_magic(by_coord(0, 0, 0))
+        && is_bad_magic(by_coord(31, 5, 7))
 }
 
-// All stores but the last, one in a call; after how many of them every tile was refused, up to the first where one was not.
-fn step(dest: &mut [u8]) -> u64 {
+// All stores but the last, one in a call; after how many of them every tile was refused, up to the first where one was
+// not.
+fn count_refused(dest: &mut [u8]) -> u64 {
     for i in 0..LAST {
-        let _ = newer(dest, i, 1);
+        let _ = publish_newer(dest, i, 1);
         if !all_refused(dest) {
             return i;
         }
@@ -100,39 +103,39 @@ fn contents(rt: &impl Print, dest: &[u8]) -> io::Result<()> {
         .map_or(Ok(()), |tiles| hex(rt, tiles))
 }
 
-fn position(rt: &impl Print, answer: Result<u64, Refusal>) -> io::Result<()> {
+fn told_number(rt: &impl Print, answer: Result<u64, Refusal>) -> io::Result<()> {
     told(rt, answer, |n| print!(rt; " {n}"))
 }
 
 // `P`: the older archive; the newer over it, one store a call; the newer over the older in three calls.
 pub(crate) fn cut(rt: &impl Print) -> io::Result<()> {
     let mut dest = [7u8; 16391];
-    position(rt, older(&mut dest))?;
+    told_number(rt, publish_older(&mut dest))?;
     contents(rt, &dest)?;
     let mut other = dest;
     print!(rt; "\ncuts 1 to 16522, every tile refused 2 ->")?;
-    print!(rt; " {}", step(&mut dest))?;
+    print!(rt; " {}", count_refused(&mut dest))?;
     print!(rt; "\nthe last store ->")?;
-    position(rt, newer(&mut dest, LAST, 1))?;
+    told_number(rt, publish_newer(&mut dest, LAST, 1))?;
     contents(rt, &dest)?;
     print!(rt; "\nthree calls, and the same bytes ->")?;
-    position(rt, newer(&mut other, 0, 16390))?;
-    position(rt, newer(&mut other, 16390, 7))?;
-    position(rt, newer(&mut other, 16397, u64::MAX))?;
+    told_number(rt, publish_newer(&mut other, 0, 16390))?;
+    told_number(rt, publish_newer(&mut other, 16390, 7))?;
+    told_number(rt, publish_newer(&mut other, 16397, u64::MAX))?;
     print!(rt; " {}", u8::from(dest == other))
 }
 
-// `p COMPRESSION TYPE POSITION BUDGET ROOT`, the bytes being the root, so long, and the tile data: one call over the older
-// archive; whether the archive is the same bytes after it.
+// `p COMPRESSION TYPE POSITION BUDGET ROOT`, the bytes being the root, so long, and the tile data: one call over the
+// older archive; whether the archive is the same bytes after it.
 pub(crate) fn once(rt: &impl Print, p: &[u8], s: &[u8]) -> io::Result<()> {
     let Some((root, tiles)) = s.split_at_checked(word(p, 40) as usize) else {
         return Ok(());
     };
     let mut dest = [7u8; 16391];
-    let _ = older(&mut dest);
+    let _ = publish_older(&mut dest);
     let before = dest;
     let settings = settings(small(p, 0), small(p, 10));
-    position(
+    told_number(
         rt,
         publish(settings, root, tiles, &mut dest, word(p, 20), word(p, 30)),
     )?;
@@ -147,5 +150,5 @@ pub(crate) fn total(rt: &impl Print, p: &[u8]) -> io::Result<()> {
         tiles: word(p, 20),
         leaves: word(p, 30),
     };
-    position(rt, publisher::total(lengths))
+    told_number(rt, publisher::total(lengths))
 }

@@ -11,17 +11,18 @@ pub(crate) fn row(rt: &impl Print, r: Row) -> io::Result<()> {
     print!(rt; ", {} {} {} {}", r.id, r.run_length, r.length, r.offset.0)
 }
 
+fn row_of(e: DirEntry) -> Row {
+    Row {
+        id: e.tile_id.value(),
+        run_length: e.run_length,
+        length: e.length,
+        offset: e.offset,
+    }
+}
+
 fn entry(rt: &impl Print, kind: &str, e: DirEntry) -> io::Result<()> {
     print!(rt; " {kind}")?;
-    row(
-        rt,
-        Row {
-            id: e.tile_id.value(),
-            run_length: e.run_length,
-            length: e.length,
-            offset: e.offset,
-        },
-    )
+    row(rt, row_of(e))
 }
 
 fn found(rt: &impl Print, f: Found) -> io::Result<()> {
@@ -79,7 +80,8 @@ pub(crate) fn find(rt: &impl Print, p: &[u8], s: &[u8]) -> io::Result<()> {
     )
 }
 
-// `t ID COUNT LAST`: the entry in stores with a tile of run 2 at 5, a pointer at 9, and a last tile; so many of the slots count.
+// `t ID COUNT LAST`: the entry in stores with a tile of run 2 at 5, a pointer at 9, and a last tile; so many of the
+// slots count.
 pub(crate) fn find_stored(rt: &impl Print, p: &[u8]) -> io::Result<()> {
     let stores = Stores {
         count: word(p, 10) as usize,

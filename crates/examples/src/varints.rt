@@ -22,7 +22,8 @@ pub(crate) fn narrow(rt: &impl Print, s: &[u8]) -> io::Result<()> {
     )
 }
 
-// `w NUMBER ROOM`: the number's size; the place behind it when it is written at 1 into so many bytes of 0xEE; the bytes.
+// `w NUMBER ROOM`: the number's size; the place behind it when it is written at 1 into so many bytes of 0xEE; the
+// bytes.
 pub(crate) fn write(rt: &impl Print, p: &[u8]) -> io::Result<()> {
     let x = word(p, 0);
     let mut room = [0xeeu8; 12];

@@ -4,8 +4,8 @@ use acceptance::Counts;
 use directory::Stores;
 use std::io;
 
-// `W COUNT ROOM ID ID RUN RUN LENGTH LENGTH OFFSET OFFSET`: how long the directory is; how much is written into so many bytes
-// that hold 9s; the bytes. A count of more than two is short of room.
+// `W COUNT ROOM ID ID RUN RUN LENGTH LENGTH OFFSET OFFSET`: how long the directory is; how much is written into so many
+// bytes that hold 9s; the bytes. A count of more than two is short of room.
 pub(crate) fn write(rt: &impl Print, p: &[u8]) -> io::Result<()> {
     let stores = Stores {
         count: word(p, 0) as usize,

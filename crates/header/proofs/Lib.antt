@@ -3,3 +3,5 @@ pub mod Only
 pub mod Examples
 pub mod Twos
 pub mod LittleEndian
+pub mod Start
+pub mod Passing

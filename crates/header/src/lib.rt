@@ -17,10 +17,12 @@ pub const HEADER_SIZE: usize = 127;
 // The header and the room behind it for the root directory: where the metadata of a new archive starts.
 pub const MAX_INITIAL_BYTES: usize = 16384;
 
-// The largest codes that are known: none, gzip, brotli and zstd are 1 to 4, MVT to MLT 1 to 6. 0 is unknown.
+// The largest codes: none, gzip, brotli and zstd are 1 to 4, MVT to MLT 1 to 6. 0 says `unknown`, and is a code too.
 pub const MAX_COMPRESSION: u8 = 4;
 
 pub const MAX_TILE_TYPE: u8 = 6;
+
+const NO_COMPRESSION: u8 = 1;
 
 // Bounds and centre, in degrees.
 #[derive(Clone, Copy, Debug, PartialEq)]
@@ -34,7 +36,7 @@ pub struct Degrees {
 }
 
 // A count of 0 is an unknown one.
-// Stays: the codes are numbers, since writing must be able to refuse a wrong one (`write_header`), and C passes numbers.
+// Stays: the codes are numbers, since writing must refuse a wrong one (`write_header`), and C passes numbers.
 #[derive(Clone, Copy, Debug, PartialEq)]
 pub struct Header {
     pub version: u8,
@@ -79,7 +81,7 @@ impl Header {
             n_tile_entries: 0,
             n_tile_contents: 0,
             clustered: true,
-            internal_compression: 1,
+            internal_compression: NO_COMPRESSION,
             tile_compression,
             tile_type,
             min_zoom: 0,
@@ -114,7 +116,7 @@ impl Header {
     }
 
     // The header into the first 127 bytes of an output. All fields go as they are held, the version too.
-    #[tactic(auto, unfolding(crate::specs::Header::write_header))]
+    #[tactic(auto, using(crate::proofs::Passing::passing), unfolding(crate::specs::Header::write_header))]
     pub fn write_to(self, out: &mut [u8]) -> Result<(), Refusal>
         ensures answer { said_written result ≡ write_header self (length out.old) }
         ensures bytes { out.new ≡ afterwards (write_header self (length out.old)) out.old (λ _. header_bytes self ++ drop 127 out.old) }
@@ -130,15 +132,15 @@ impl Header {
             Refusal::InvalidCompression,
         )?;
         known(self.tile_type, MAX_TILE_TYPE, Refusal::InvalidTileType)?;
-        if out.len() < HEADER_SIZE {
+        let Some(start) = out.first_chunk_mut() else {
             return Err(Refusal::RoomTooShort);
-        }
-        write::put_header(out, self);
+        };
+        write::put_header(start, self);
         Ok(())
     }
 }
 
-// Whether a code is known: none is above the largest.
+// A check: a code up to the largest passes, 0 too; for one above it the answer is the refusal that is given.
 pub(crate) fn known(code: u8, largest: u8, unknown: Refusal) -> Result<(), Refusal>
     ensures when { IsOk result ↔ (code ≤ largest) }
     ensures why { IfErr result (λ r. r ≡ unknown) }

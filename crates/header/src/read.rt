@@ -29,8 +29,7 @@ fn degree_at(bytes: &[u8], at: usize) -> f64
 }
 
 #[tactic(auto, unfolding(crate::specs::Header::degrees_at_lem))]
-fn degrees_at(bytes: &[u8]) -> Degrees
-    requires { 127 ≤ length bytes.now }
+fn degrees_at(bytes: &[u8; HEADER_SIZE]) -> Degrees
     ensures { result ≡ degrees_at_lem bytes.now }
 {
     Degrees {
@@ -45,8 +44,7 @@ fn degrees_at(bytes: &[u8]) -> Degrees
 
 // The fields of a header that is whole.
 #[tactic(auto, unfolding(crate::specs::Header::fields_of))]
-fn fields_of(bytes: &[u8]) -> Header
-    requires { 127 ≤ length bytes.now }
+fn fields_of(bytes: &[u8; HEADER_SIZE]) -> Header
     ensures { result ≡ fields_of bytes.now }
 {
     Header {
@@ -73,7 +71,7 @@ fn fields_of(bytes: &[u8]) -> Header
     }
 }
 
-// The code at a place, or why there is none.
+// A check: Ok if the bytes reach the code at a place and it is known, else why not.
 fn code_at(bytes: &[u8], at: usize, largest: u8, unknown: Refusal) -> Result<(), Refusal>
     ensures { said (λ u. u) result ≡ need (leb (at + 1) (length bytes.now)) 1 (need (leb (byte_at bytes.now at) largest) (number_of unknown) (ok tt)) }
 {
@@ -82,15 +80,13 @@ fn code_at(bytes: &[u8], at: usize, largest: u8, unknown: Refusal) -> Result<(),
 }
 
 // The fields in order: each code is tested where it stands, even if fields behind it are missing.
-#[tactic(auto, unfolding(crate::specs::Header::read_fields_lem))]
+#[tactic(auto, using(crate::proofs::Start::fields_start), unfolding(crate::specs::Header::read_fields_lem))]
 pub(crate) fn read_fields(bytes: &[u8]) -> Result<Header, Refusal>
     ensures { said_read result ≡ read_fields_lem bytes.now }
 {
     code_at(bytes, 97, MAX_COMPRESSION, Refusal::InvalidCompression)?;
     code_at(bytes, 98, MAX_COMPRESSION, Refusal::InvalidCompression)?;
     code_at(bytes, 99, MAX_TILE_TYPE, Refusal::InvalidTileType)?;
-    if bytes.len() < HEADER_SIZE {
-        return Err(Refusal::InvalidHeader);
-    }
-    Ok(fields_of(bytes))
+    let start = bytes.first_chunk().ok_or(Refusal::InvalidHeader)?;
+    Ok(fields_of(start))
 }

@@ -1,9 +1,9 @@
-// Writing: the fields put into an output that is long enough, a few at a time.
+// Writing: the fields put into the 127 bytes of a header, a few at a time.
 ghost use Rattle.std.specs.Prelude.{◌≡◌, ◌+◌, ◌≤◌, length};
 ghost use Rattle.std.proofs.lemmas.List.Edits.{sets};
 ghost use Rattle.header.specs.Header.{coordinate, field_bytes, header_bytes, u64};
 
-use crate::Header;
+use crate::{HEADER_SIZE, Header};
 use degrees::stored_of;
 
 fn put(out: &mut [u8], at: usize, bytes: &[u8])
@@ -29,8 +29,7 @@ fn put_degree(out: &mut [u8], at: usize, x: f64)
     put(out, at, &stored_of(x).to_le_bytes());
 }
 
-fn put_numbers(out: &mut [u8], h: Header)
-    requires { 127 ≤ length out.old }
+fn put_numbers(out: &mut [u8; HEADER_SIZE], h: Header)
     ensures { out.new ≡ sets out.old 8 (field_bytes h 2 11) }
 {
     put_u64(out, 8, h.root_offset);
@@ -46,8 +45,7 @@ fn put_numbers(out: &mut [u8], h: Header)
     put_u64(out, 88, h.n_tile_contents);
 }
 
-fn put_degrees(out: &mut [u8], h: Header)
-    requires { 127 ≤ length out.old }
+fn put_degrees(out: &mut [u8; HEADER_SIZE], h: Header)
     ensures { out.new ≡ sets out.old 102 (field_bytes h 19 7) }
 {
     let d = h.degrees;
@@ -60,10 +58,9 @@ fn put_degrees(out: &mut [u8], h: Header)
     put_degree(out, 123, d.center_latitude);
 }
 
-// The whole header, from the first byte on.
-pub(crate) fn put_header(out: &mut [u8], h: Header)
-    requires { 127 ≤ length out.old }
-    ensures { out.new ≡ sets out.old 0 (header_bytes h) }
+// The whole header.
+pub(crate) fn put_header(out: &mut [u8; HEADER_SIZE], h: Header)
+    ensures { out.new ≡ header_bytes h }
 {
     put(out, 0, b"PMTiles");
     out[7] = h.version;

@@ -3,6 +3,7 @@ use Rattle.std.proofs.Common.{◌≡◌, ℕ, true, List, take, refl, arith}
 use Rattle.std.proofs.lemmas.Bool.Decides.{nat_tests}
 use Rattle.std.specs.Prelude.{Float}
 use Rattle.header.specs.Header.{write_header}
+use Rattle.pmtiles.specs.Exports.{status}
 use Rattle.pmtiles.specs.Headers.{byte_of, degrees_in_lem, fitting, header_in_lem, header_with, written_header}
 use Rattle.pmtiles.proofs.Bytes.{byte_fits, byte_test, first_slots}
 
@@ -25,4 +26,8 @@ pub same_written : (ns : List ℕ) (ds : List Float) → fitting ns ≡ true →
 unfolding write_header header_with fitting
 same_written ns ds fit room = grind (arith, nat_tests, byte_fits, byte_test)
 
-pub ruleset header_steps = (fitting-take, header-take, same_written)
+pub same_status : (ns : List ℕ) (ds : List Float) → fitting ns ≡ true → (room : ℕ) → status (write_header (header_with byte_of ns ds) room) ≡ status (written_header (header_in_lem ns ds) room)
+unfolding write_header header_with fitting
+same_status ns ds fit room = grind (arith, nat_tests, byte_fits, byte_test)
+
+pub ruleset header_steps = (fitting-take, header-take, same_written, same_status)

@@ -72,6 +72,7 @@ pub fn pmt_build(
         (within 4 out.old (building count ids.now runs.now lengths.now offsets.now data_length (length root.old) (length leaves.old))) result
         root.old root.new leaves.old leaves.new out.old out.new }
 {
+    // Stays: room is tested before root and leaves are touched: a refusal keeps both (`BuildTold`); tell tests after.
     if out.len() < 4 {
         return Refusal::RoomTooShort.number();
     }

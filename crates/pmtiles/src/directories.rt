@@ -30,6 +30,7 @@ pub fn pmt_directory_read(
         lengths.old lengths.new offsets.old offsets.new
         out.old out.new }
 {
+    // Stays: room is tested before entries are read: a refusal leaves zeros (`DirectoryTold`); tell tests after.
     if out.len() < 2 {
         ids.fill(0);
         runs.fill(0);

@@ -1,6 +1,9 @@
 // Headers, as numbers and degrees in lent slots: both in the order of the header's fields.
-ghost use Rattle.std.specs.Prelude.{◌≡◌, ◌≤◌, length};
-ghost use Rattle.header.specs.Header.{read_header};
+ghost use Rattle.std.specs.Prelude.{◌≡◌, ◌≤◌, ◌++◌, drop, length};
+ghost use Rattle.refusal.specs.Out.{afterwards};
+ghost use Rattle.refusal.specs.Said.{said};
+ghost use Rattle.header.specs.Header.{header_bytes, read_header};
+ghost use Rattle.pmtiles.specs.Exports.{status};
 ghost use Rattle.pmtiles.specs.Headers.{HeaderMade, HeaderTold, byte_of, degrees_in_lem, fitting, header_values, header_with, lent, making_header};
 
 use crate::slots::{Values, put, tell};
@@ -40,6 +43,7 @@ pub fn pmt_header_read(bytes: &[u8], out: &mut [u64], degrees: &mut [f64]) -> u8
     ensures { HeaderTold (lent out.old degrees.old (read_header bytes.now)) result
         out.old out.new degrees.old degrees.new }
 {
+    // Stays: room is tested before degrees are touched: a refusal keeps them (`HeaderTold`); tell tests after.
     if out.len() < 19 || degrees.len() < 6 {
         return Refusal::RoomTooShort.number();
     }
@@ -62,6 +66,7 @@ pub fn pmt_header_read(bytes: &[u8], out: &mut [u64], degrees: &mut [f64]) -> u8
 }
 
 // Whether each number fits its field, save the codes: one above 255 is as unknown as 255.
+// Stays: apart from to_byte, which may not refuse: a code above 255 is 255, answered after these (`making_header`).
 #[tactic(auto, unfolding(crate::specs::Headers::fitting))]
 fn fits(numbers: &[u64; 19]) -> bool
     ensures { result ≡ fitting numbers.now }
@@ -124,22 +129,23 @@ fn header_in(numbers: &[u64; 19], degrees: &[f64; 6]) -> Header
 
 // The header that the slots give, into the first 127 bytes. 1 for a version or a zoom above 255 and for a flag above 1;
 // then 4, 5 and 15 as the header's own writing has them, 4 and 5 for a code above 255 too.
-#[tactic(auto, using(crate::proofs::HeaderSlots::header_steps), unfolding(crate::specs::Headers::making_header))]
 pub fn pmt_header_write(numbers: &[u64], degrees: &[f64], bytes: &mut [u8]) -> u8
     ensures { HeaderMade (making_header numbers.now degrees.now (length bytes.old)) result
         bytes.old bytes.new }
 {
-    let Some(numbers) = numbers.first_chunk() else {
-        return Refusal::RoomTooShort.number();
-    };
-    let Some(degrees) = degrees.first_chunk() else {
-        return Refusal::RoomTooShort.number();
-    };
+    tell(&mut [], write_given(numbers, degrees, bytes))
+}
+
+// The same, before a refusal is a status.
+#[tactic(auto, using(crate::proofs::HeaderSlots::header_steps), unfolding(crate::specs::Headers::making_header))]
+fn write_given(numbers: &[u64], degrees: &[f64], bytes: &mut [u8]) -> Result<(), Refusal>
+    ensures says { status (said (λ x. x) result) ≡ status (making_header numbers.now degrees.now (length bytes.old)) }
+    ensures written { bytes.new ≡ afterwards (making_header numbers.now degrees.now (length bytes.old)) bytes.old (λ h. header_bytes h ++ drop 127 bytes.old) }
+{
+    let numbers = numbers.first_chunk().ok_or(Refusal::RoomTooShort)?;
+    let degrees = degrees.first_chunk().ok_or(Refusal::RoomTooShort)?;
     if !fits(numbers) {
-        return Refusal::InvalidHeader.number();
+        return Err(Refusal::InvalidHeader);
     }
-    match header_in(numbers, degrees).write_to(bytes) {
-        Ok(()) => 0,
-        Err(r) => r.number(),
-    }
+    header_in(numbers, degrees).write_to(bytes)
 }

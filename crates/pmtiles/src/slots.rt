@@ -17,6 +17,15 @@ pub(crate) trait Values<const N: usize>: Copy {
         ensures { result ≡ listed self };
 }
 
+// A call that tells its status alone.
+impl Values<0> for () {
+    ghost listed = { λ _. [] };
+
+    fn values(self) -> [u64; 0] {
+        []
+    }
+}
+
 impl Values<1> for u64 {
     ghost listed = { λ n. n ∷ [] };
 

@@ -45,6 +45,7 @@ pub fn pmt_directory_write(
         (within 1 out.old (writing count ids.now runs.now lengths.now offsets.now (length bytes.old))) result
         bytes.old bytes.new out.old out.new }
 {
+    // Stays: room is tested before bytes are touched: a refusal keeps them (`WriteTold`); tell tests after.
     if out.is_empty() {
         return Refusal::RoomTooShort.number();
     }

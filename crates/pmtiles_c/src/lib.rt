@@ -1,5 +1,5 @@
 // The core for programs in C and Rust: include/pmtiles.h says the same in C. Each function is that of crate pmtiles.
-// Stays: each function once more, with its contract: a crate is a library for Rattle or for C, not both (DECISIONS).
+// Stays: each function and contract again, slices one by one as C has them: a crate is for Rattle or for C (DECISIONS).
 #![tactic(auto)]
 
 ghost use Rattle.std.specs.Prelude.{◌∷◌, [], length};

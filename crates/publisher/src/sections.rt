@@ -31,6 +31,7 @@ impl Cut {
 }
 
 // The section that puts src's bytes upward from a place.
+// Stays: dest and cut side by side, here and below: in a struct, `Done` would reach dest through a loan within a loan.
 fn section(src: &[u8], dest: &mut [u8], place: usize, cut: &mut Cut)
     requires { place + length src.now ≤ length dest.old }
     ensures { Done (upward place src.now) cut.old dest.old cut.new dest.new }

@@ -19,7 +19,8 @@ fn part(archive: &[u8], start: u64, size: u64) -> &[u8]
 }
 
 // From the root down: at most three directories follow it.
-#[tactic(auto, using(crate::proofs::Inside::range_inside))]
+// Stays: `archive` and `s` side by side, as the public `leaf_range` and `tile_range` take them.
+#[tactic(auto, using(crate::proofs::Inside::range_inside, crate::proofs::Descents::searched, crate::proofs::Descents::unsearched, crate::proofs::Descents::onward_leaf))]
 fn descend(
     archive: &[u8],
     s: Sections,
@@ -28,32 +29,24 @@ fn descend(
 ) -> Result<Option<Located>, Refusal>
     ensures { said_lookup result ≡ descend_in 3 (sections_given s) archive.now target.0 root.now }
 {
-    let mut directory = root;
-    let mut left: u8 = 3;
-    // Stays: a loop, since a function that calls itself took a fifth longer for a lookup in small directories.
-    loop {
-        match walk::find(directory, target)? {
-            Found::Absent => return Ok(None),
-            Found::Tile(e) => return tile_range(archive, s, e).map(Some),
-            Found::Leaf(e) => {
-                if left == 0 {
-                    return Err(Refusal::TooDeep);
-                }
-                let leaf = leaf_range(archive, s, e)?;
-                directory = part(archive, leaf.start.0, u64::from(leaf.length));
-                left -= 1;
-            }
-        }
+    let mut found = walk::find(root, target)?;
+    for _ in 0..3u8 {
+        let Found::Leaf(e) = found else { break };
+        let leaf = leaf_range(archive, s, e)?;
+        found = walk::find(part(archive, leaf.start.0, u64::from(leaf.length)), target)?;
+    }
+    match found {
+        Found::Absent => Ok(None),
+        Found::Tile(e) => tile_range(archive, s, e).map(Some),
+        Found::Leaf(_) => Err(Refusal::TooDeep),
     }
 }
 
-#[tactic(auto, using(crate::proofs::Inside::root_in), unfolding(crate::specs::Lookup::lookup))]
+#[tactic(auto, using(crate::proofs::Inside::root_in), unfolding(crate::specs::Lookup::lookup, tile::specs::Answers::new_id))]
 pub fn lookup(archive: &[u8], target: TileId) -> Result<Option<Located>, Refusal>
     ensures { said_lookup result ≡ lookup_in archive.now target.0 }
 {
-    if TileId::MAX_TILE_ID < target.value() {
-        return Err(Refusal::InvalidTileId);
-    }
+    TileId::new(target.value())?;
     let s = open(archive)?;
     let root = part(archive, s.root.offset.0, s.root.length);
     descend(archive, s, target, root)

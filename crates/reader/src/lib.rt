@@ -10,6 +10,7 @@ pub use descent::{lookup, lookup_coord};
 pub use ranges::{leaf_range, open, tile_range};
 
 // So many bytes from a place of the archive on.
+// Stays: Extent with `start` for `offset`, since it is public and `range_of` (specs/Answers) names its fields.
 #[derive(Clone, Copy)]
 pub struct Located {
     pub start: Offset,

@@ -11,6 +11,9 @@ use directory::{DirEntry, Offset};
 use header::Header;
 use refusal::Refusal;
 
+// The code of a header for bytes that are as they are.
+const NO_COMPRESSION: u8 = 1;
+
 // Where so many bytes from a place on end, which may be no further than the limit.
 fn end_within(limit: u64, start: u64, length: u64) -> Result<u64, Refusal>
     ensures { said (λ end. end) result ≡ need (leb (start + length) limit) 17 (ok (start + length)) }
@@ -33,7 +36,7 @@ pub fn open(archive: &[u8]) -> Result<Sections, Refusal>
 fn sections(h: Header, total: u64) -> Result<Sections, Refusal>
     ensures { said_opened result ≡ opened_in h total }
 {
-    if h.internal_compression != 1 {
+    if h.internal_compression != NO_COMPRESSION {
         return Err(Refusal::CompressedDirectories);
     }
     end_within(total, h.root_offset, h.root_length)?;
@@ -67,6 +70,7 @@ fn range_in(s: Section, total: u64, e: DirEntry) -> Result<Located, Refusal>
 }
 
 // The leaf that a pointer of an archive points to.
+// Stays: `archive` and `s` side by side, here and below: both functions are public (docs/PROMISES.md).
 pub fn leaf_range(archive: &[u8], s: Sections, pointer: DirEntry) -> Result<Located, Refusal>
     ensures { said_ranged result ≡ range_in_lem (section_of s.leaves) (length archive.now) (entry_of pointer) }
 {

@@ -1,5 +1,5 @@
 // The kinds of input, and the line that each makes.
-use directory::{DirEntry, Found, Stores};
+use directory::{DirEntry, Found, Offset, Row, Stores};
 use header::{HEADER_SIZE, Header};
 use reader::Located;
 use refusal::Refusal;
@@ -7,7 +7,7 @@ use std::io;
 use tile::{TileCoord, TileId};
 use varint::Cursor;
 
-// Stays: the kind is a byte of the list; an enum would only name each kind a second time, between this match and the list.
+// Stays: the kind is a byte of the list; an enum would name each kind twice, here and where the byte is read.
 pub(crate) fn answer(rt: &impl Print, kind: u8, s: &[u8]) -> io::Result<()> {
     match kind {
         b'i' => id(rt, s),
@@ -22,6 +22,7 @@ pub(crate) fn answer(rt: &impl Print, kind: u8, s: &[u8]) -> io::Result<()> {
 }
 
 // What an answer prints.
+// Stays: beside std's `Display`, which cannot be written here for types of the crates below and for Option and Result.
 trait Tell {
     fn tell(self, rt: &impl Print) -> io::Result<()>;
 }
@@ -42,10 +43,12 @@ impl Tell for DirEntry {
     fn tell(self, rt: &impl Print) -> io::Result<()> {
         entry(
             rt,
-            self.tile_id.value(),
-            self.run_length,
-            self.length,
-            self.offset.0,
+            Row {
+                id: self.tile_id.value(),
+                run_length: self.run_length,
+                length: self.length,
+                offset: self.offset,
+            },
         )
     }
 }
@@ -81,6 +84,7 @@ fn refused(rt: &impl Print, r: Refusal) -> io::Result<()> {
     print!(rt; "refused {}", r.number())
 }
 
+// Stays: also in examples/src/print.rt, with a space; a crate for these few lines would be longer than they are.
 fn hex(rt: &impl Print, s: &[u8]) -> io::Result<()> {
     for b in s {
         print!(rt; "{b:02x}")?;
@@ -88,8 +92,9 @@ fn hex(rt: &impl Print, s: &[u8]) -> io::Result<()> {
     Ok(())
 }
 
-fn entry(rt: &impl Print, id: u64, run: u32, length: u32, offset: u64) -> io::Result<()> {
-    print!(rt; " {id} {run} {length} {offset},")
+// Id, run, length and offset.
+fn entry(rt: &impl Print, r: Row) -> io::Result<()> {
+    print!(rt; " {} {} {} {},", r.id, r.run_length, r.length, r.offset.0)
 }
 
 // The zoom is a byte, x and y are varints behind it.
@@ -139,7 +144,15 @@ fn directory(rt: &impl Print, s: &[u8]) -> io::Result<()> {
     };
     let entries = ids.iter().zip(&runs).zip(&lengths).zip(&offsets);
     for (((id, run), length), offset) in entries.take(count) {
-        entry(rt, *id, *run, *length, *offset)?;
+        entry(
+            rt,
+            Row {
+                id: *id,
+                run_length: *run,
+                length: *length,
+                offset: Offset(*offset),
+            },
+        )?;
     }
     print!(rt; " ")?;
     let stores = Stores {

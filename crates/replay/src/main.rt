@@ -1,5 +1,5 @@
-// Replays a list: stdin has the inputs, and the file stdout what the Rust answered to each, a line for each input. README.md
-// says how both were made.
+// Replays a list: stdin has the inputs, and the file stdout what the Rust answered to each, a line for each input.
+// README.md says how both were made.
 #![tactic(auto)]
 
 ghost use Rattle.std.specs.Prelude.{◌<◌, length, IfSome};
@@ -11,8 +11,8 @@ mod answers;
 // How much of a list is read.
 const MOST: u64 = 262144;
 
-// The first input of a list, and the list behind it. An input is its kind, its length in two bytes, lowest first, and so
-// many bytes.
+// The first input of a list, and the list behind it. An input is its kind, its length in two bytes, lowest first, and
+// so many bytes.
 fn split_input(list: &[u8]) -> Option<(u8, &[u8], &[u8])>
     ensures { IfSome result (λ (kind, input, behind). length behind.now < length list.now) }
 {
@@ -21,6 +21,7 @@ fn split_input(list: &[u8]) -> Option<(u8, &[u8], &[u8])>
     Some((kind, input, behind))
 }
 
+// Stays: also `run` of examples/src/main.rt; a crate for these few lines would be longer than they are.
 fn replay(rt: &impl Print, list: &[u8]) -> io::Result<()> {
     let mut rest = list;
     while let Some((kind, input, behind)) = split_input(rest) {
@@ -30,6 +31,7 @@ fn replay(rt: &impl Print, list: &[u8]) -> io::Result<()> {
     Ok(())
 }
 
+// Stays: also in examples/src/main.rt; a crate for these three lines would be longer than they are.
 fn main(rt: HostRuntime) -> io::Result<()> {
     let mut list = Vec::new(rt.alloc());
     rt.reader().take(MOST).read_to_end(&mut list)?;

@@ -4,13 +4,13 @@ use mathlib.Core.Path.{◌≡◌, sym, ◌∙◌}
 use mathlib.Core.Bool.{true, false}
 use mathlib.Core.List.{List}
 use native.Mathlib.Omega.{arith}
-use borrow.Author.Tests.{le-leb}
+use borrow.Author.Tests.{le-leb, leb-true}
 use lib.Dec.{leb}
 use lib.ListN.{get_or, length, take}
 use Rattle.std.specs.List.Sorted.{IsPartitionPoint, IsPartitionedBy}
 use Rattle.refusal.specs.Out.{Out, ok, ◌>>=◌, need}
-use Rattle.refusal.proofs.OutLaws.{need-bind}
-use Rattle.tile.specs.Answers.{is_id, max_id}
+use Rattle.refusal.proofs.OutLaws.{need-bind, need-ok, ok-is}
+use Rattle.tile.specs.Answers.{is_id, max_id, new_id}
 use Rattle.directory.specs.Entries.{Valid}
 use Rattle.directory.specs.Search.{absent, counting, find_stored, search, shortest, stored}
 use Rattle.directory.specs.Stores.{checked_all}
@@ -20,6 +20,11 @@ use Rattle.directory.proofs.Slots.{check-all}
 use Rattle.search.specs.Answers.{answering}
 use Rattle.search.proofs.Hits.{answered}
 use Rattle.search.proofs.Last.{below, last_none, last_some, parted}
+
+-- an id that passed is the one that is looked for, and no larger than the largest
+pub looked_for : {id t : ℕ} → ok t ≡ new_id id → (t ≡ id) × (id ≤ max_id)
+unfolding new_id
+looked_for {id} {t} e = let h = need-ok (is_id id) 7 (ok id) t (sym e) in (sym (ok-is h.1), leb-true id max_id h.0)
 
 module _ (n : ℕ) (a b l o : List ℕ) where
   -- the answer to the checks of all entries

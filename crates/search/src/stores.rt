@@ -9,20 +9,17 @@ use refusal::Refusal;
 use tile::TileId;
 
 // The first count slots of the stores, checked whole and then searched by halving.
-// Stays: the row is made here, as in directory/src/checking.rt.
-#[tactic(auto, using(crate::proofs::Finding::find_steps))]
+#[tactic(auto, using(crate::proofs::Finding::find_steps), unfolding(tile::specs::Answers::new_id))]
 pub fn find_tile_id(stores: &Stores, target: TileId) -> Result<Found, Refusal>
     ensures { said_found result ≡ over stores.now find_stored target.0 }
 {
-    let t = target.value();
-    if TileId::MAX_TILE_ID < t {
-        return Err(Refusal::InvalidTileId);
-    }
+    let t = TileId::new(target.value())?.value();
     check_stores(stores)?;
     let above = stores.ids[..stores.count].partition_point(|id| *id <= t);
     let Some(i) = above.checked_sub(1) else {
         return Ok(Found::Absent);
     };
+    // Stays: the row is made here, as in directory/src/checking.rt.
     let row = Row {
         id: stores.ids[i],
         run_length: stores.runs[i],

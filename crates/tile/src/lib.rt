@@ -13,7 +13,7 @@ mod pyramid;
 pub use pyramid::PYRAMID_SIZE_BY_ZOOM;
 
 // The fields are private, so that what `new` refused is not made elsewhere.
-// Stays: no invariant, since it narrows what public functions take, whose clauses (`to_coord_lem`) know any value.
+// Stays: no invariants: they narrow what public functions take, whose clauses `to_id`, `to_coord_lem` know any value.
 #[derive(Clone, Copy, Debug, PartialEq, Eq)]
 pub struct TileCoord {
     z: u8,

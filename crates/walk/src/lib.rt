@@ -5,4 +5,5 @@ mod cursors;
 mod sweep;
 
 pub use cursors::Columns;
+pub use directory::Row;
 pub use sweep::find;

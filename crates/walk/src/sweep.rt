@@ -38,12 +38,10 @@ fn sweep(bytes: &[u8], from: Columns, target: TileId) -> Result<Found, Refusal>
     }
 }
 
-#[tactic(auto, using(crate::proofs::Sweeps::find_rows))]
+#[tactic(auto, using(crate::proofs::Sweeps::find_rows), unfolding(tile::specs::Answers::new_id))]
 pub fn find(bytes: &[u8], target: TileId) -> Result<Found, Refusal>
     ensures { said_found result ≡ find_in bytes.now target.0 }
 {
-    if TileId::MAX_TILE_ID < target.value() {
-        return Err(Refusal::InvalidTileId);
-    }
+    TileId::new(target.value())?;
     sweep(bytes, Columns::open(bytes)?, target)
 }

@@ -5,6 +5,7 @@ use mathlib.Core.List.{List, [], ◌∷◌}
 use native.Mathlib.Omega.{arith}
 use lib.ListN.{drop, drop_of_length-le, get_or, length, length-drop, length-take, take}
 use lib.Seq.{drop-drop, take_all, take-take}
+use Rattle.std.specs.Int.{div_ceil}
 use Rattle.varint.proofs.Cases.{by-lt}
 use Rattle.directory.specs.Entries.{Entry}
 use Rattle.directory.specs.Columns.{entries}
@@ -14,7 +15,7 @@ use Rattle.acceptance.specs.Accept.{Accepts}
 use Rattle.writer.specs.Build.{chunks, first_id, leaves_of}
 use Rattle.writer.specs.Cells.{Rising, part}
 use Rattle.writer.specs.Cuts.{cuts, every, first_ids, leaf_end_lem}
-use Rattle.writer.proofs.Chunks.{chunk-fuel, chunk-step}
+use Rattle.writer.proofs.Chunks.{chunk-fuel, chunk-step, chunks-count}
 use Rattle.writer.proofs.Lengths.{encode-size}
 use Rattle.writer.proofs.Parts.{cell-more, drop-take, ids-part, ids-rise, ranged, part_length, part_none, rest-more}
 use Rattle.writer.proofs.Puts.{Kept, recut}
@@ -77,6 +78,12 @@ module _ (es : List Entry) (k n : ℕ) (m : n ≤ length es) where
   pub cuts-all : cuts k 0 n es ≡ chunks (length (part 0 n es)) k (part 0 n es)
   unfolding cuts
   cuts-all = ap (λ (f : ℕ). chunks f k (part 0 n es)) (sym (part_length es 0 n m))
+
+-- how many leaves there are
+pub cuts-count : (es : List Entry) (k n : ℕ) → 0 < k → n ≤ length es → length (cuts k 0 n es) ≡ div_ceil n k
+cuts-count es k n h m =
+    let l : length (part 0 n es) ≡ n = omega (arith, part_length es 0 n m) in
+    ap length (cuts-all es k n m) ∙ chunks-count k (part 0 n es) h ∙ ap (λ (i : ℕ). div_ceil i k) l
 
 -- ---- first ids
 

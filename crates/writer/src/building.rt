@@ -12,7 +12,7 @@ ghost use Rattle.writer.specs.Cuts.{Planned, sizes_planned};
 
 use crate::Sizes;
 use crate::columns::put_entries;
-use crate::leaves::{Split, choose, put_split};
+use crate::leaves::{MAX_ROOT, Split, choose, put_split};
 use crate::sizing::sized;
 use acceptance::{Counts, accept};
 use directory::Stores;
@@ -43,7 +43,7 @@ fn plan(stores: &Stores) -> Layout
 {
     if stores.count < 16384 {
         let n = sized(stores, 0, stores.count);
-        if n <= 16257 {
+        if n <= MAX_ROOT {
             return Layout::Root(n);
         }
     }

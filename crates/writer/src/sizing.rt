@@ -31,6 +31,16 @@ pub(crate) fn row_at(stores: &Stores, i: usize) -> Row
     }
 }
 
+// Where an entry's contents lie.
+pub(crate) fn extent_of(row: Row) -> Extent
+    ensures { (result.offset ≡ row.offset) × (result.length ≡ row.length) }
+{
+    Extent {
+        offset: row.offset,
+        length: row.length,
+    }
+}
+
 // How many bytes an entry takes in the four columns.
 pub(crate) fn entry_size(prev: u64, before: Option<Extent>, row: Row) -> usize
     requires { (prev ≤ row.id) × (code_of (end_after before) row.offset.0 < 2 ^ 64) }
@@ -43,6 +53,7 @@ pub(crate) fn entry_size(prev: u64, before: Option<Extent>, row: Row) -> usize
 }
 
 // How many bytes a range of the entries takes as a directory: one pass.
+// Stays: three parameters: only this and put_entries take a range, and each of the five calls would make a struct.
 pub(crate) fn sized(stores: &Stores, from: usize, to: usize) -> usize
     requires { Ready from to (slots stores.now) }
     ensures { result ≡ length (encode (part from to (slots stores.now))) }
@@ -50,14 +61,12 @@ pub(crate) fn sized(stores: &Stores, from: usize, to: usize) -> usize
     let mut sum = varint::size((to - from) as u64);
     let mut prev: u64 = 0;
     let mut before = None;
+    // Stays: by index: four slices zipped give `(((id, run), length), offset)`, and the row is made of that again.
     for i in from..to {
         let row = row_at(stores, i);
         sum += entry_size(prev, before, row);
         prev = row.id;
-        before = Some(Extent {
-            offset: row.offset,
-            length: row.length,
-        });
+        before = Some(extent_of(row));
     }
     sum
 }

@@ -10,7 +10,7 @@ ghost use Rattle.writer.specs.Answers.{laid, length_of, said_length, writing};
 ghost use Rattle.writer.specs.Cells.{coded_one, in_use, slots};
 
 use crate::columns::put_entries;
-use crate::sizing::{code, entry_size, row_at};
+use crate::sizing::{code, entry_size, extent_of, row_at};
 use directory::{Extent, Row, Stores, check_count, check_entry};
 use refusal::Refusal;
 
@@ -35,15 +35,13 @@ fn encoded(stores: &Stores) -> Result<usize, Refusal>
     let mut lo: u64 = 0;
     let mut prev: u64 = 0;
     let mut before = None;
+    // Stays: by index, as in `sized`.
     for i in 0..stores.count {
         let row = row_at(stores, i);
         lo = check_coded(lo, before, row)?;
         sum += entry_size(prev, before, row);
         prev = row.id;
-        before = Some(Extent {
-            offset: row.offset,
-            length: row.length,
-        });
+        before = Some(extent_of(row));
     }
     Ok(sum)
 }

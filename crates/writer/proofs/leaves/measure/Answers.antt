@@ -1,6 +1,6 @@
 -- `leaves::measure` meets its contract. The loop keeps that what is counted and what the leaves to come take are the whole. Assumes nothing.
 use Prim.Native.Nat.{ℕ, ◌*◌, ◌-◌, ◌≤◌, ◌<◌}
-use mathlib.Core.Path.{◌≡◌, refl, ap, ◌∙◌}
+use mathlib.Core.Path.{◌≡◌, refl, ap, sym, ◌∙◌}
 use mathlib.Core.List.{[]}
 use native.Mathlib.Omega.{arith}
 use lib.ListN.{get_or, length, length-append}
@@ -10,7 +10,7 @@ use Rattle.directory.specs.Encode.{encode}
 use Rattle.writer.specs.Build.{leaves_of}
 use Rattle.writer.specs.Cells.{part, slots}
 use Rattle.writer.specs.Cuts.{cuts, leaf_end_lem}
-use Rattle.writer.proofs.Cut.{cuts-last, cuts-more, cuts-none, cuts-rise, end-in, end_low, first-is, leaf-size}
+use Rattle.writer.proofs.Cut.{cuts-count, cuts-last, cuts-more, cuts-none, cuts-rise, end-in, end_low, first-is, leaf-size}
 use Rattle.writer.proofs.Lengths.{narrow-is}
 use Rattle.writer.proofs.Parts.{entries-length}
 use Rattle.writer.proofs.Pointers.{root-length, root-more, root_none, root_size}
@@ -56,7 +56,7 @@ pub loop-from-init : goal.loop-from-init
 loop-from-init c =
     let a = c.args in
     let p = c.requires in
-    (omega arith, omega arith, omega arith, cuts-rise a.stores.now.ids.now a.stores.now.runs.now a.stores.now.lengths.now a.stores.now.offsets.now a.k a.stores.now.count p.0 p.1.inside p.1.accepts, omega arith, omega arith, omega arith, omega arith)
+    (omega arith, omega arith, cuts-rise a.stores.now.ids.now a.stores.now.runs.now a.stores.now.lengths.now a.stores.now.offsets.now a.k a.stores.now.count p.0 p.1.inside p.1.accepts, omega arith, omega arith, omega arith)
 
 pub sized-length-requires : goal.sized-length-requires
 sized-length-requires c =
@@ -75,7 +75,7 @@ pub overflow_sub-id : goal.overflow_sub-id
 overflow_sub-id c =
     let a = c.args in
     let l = c.loop-from in
-    let r = rw (cuts-more (slots a.stores.now) a.k l.from a.stores.now.count c.requires.0 c.loop-from-test.true c.requires.1.inside) at l.invariant.3 in
+    let r = rw (cuts-more (slots a.stores.now) a.k l.from a.stores.now.count c.requires.0 c.loop-from-test.true c.requires.1.inside) at l.invariant.2 in
     rw (first-is a.stores.now.ids.now a.stores.now.runs.now a.stores.now.lengths.now a.stores.now.offsets.now a.k a.stores.now.count c.requires.0 c.requires.1.inside l.from c.loop-from-test.true) at r.0
 
 pub overflow_add-root : goal.overflow_add-root
@@ -103,9 +103,7 @@ loop-from-preserved c =
     rw (end_low l.from a.k a.stores.now.count (omega arith)) (
       omega (arith, t.low),
       omega (arith, t.low),
-      omega (arith, t.low),
-      (rw (m, f) at l.invariant.3).1,
-      omega (arith, ap length m),
+      (rw (m, f) at l.invariant.2).1,
       omega (arith, q, c.size.ensures, t.pointer, ap (λ (x : ℕ). length (put narrow x)) t.leaf),
       omega (arith, t.leaf, ap (λ cs. length (leaves_of cs)) m, length-append (encode (part l.from (leaf_end_lem l.from a.k a.stores.now.count) es)) (leaves_of (cuts a.k (leaf_end_lem l.from a.k a.stores.now.count) a.stores.now.count es))),
       omega (arith, t.high),
@@ -113,7 +111,6 @@ loop-from-preserved c =
 
 -- after the last turn
 record Ends (c : After-size-2) : Type 0 where
-  many : c.loop-from-test.n ≡ length (cuts c.args.k 0 c.args.stores.now.count (slots c.args.stores.now))
   root : c.loop-from-test.root ≡ root_size 0 (cuts c.args.k 0 c.args.stores.now.count (slots c.args.stores.now))
   leaves : c.loop-from-test.leaves ≡ length (leaves_of (cuts c.args.k 0 c.args.stores.now.count (slots c.args.stores.now)))
   small : c.loop-from-test.root ≤ 22 * c.args.stores.now.count
@@ -129,7 +126,6 @@ ends c =
       | else-loop-from-test w ↦
           let z = cuts-none es a.k l.from s.count w.loop-from-test.false in
           record {
-            many = omega (arith, w.n-is, ap length z);
             root = omega (arith, w.root-is, ap (root_size l.prev) z ∙ root_none l.prev);
             leaves = omega (arith, w.leaves-is, ap (λ cs. length (leaves_of cs)) z);
             small = omega (arith, w.root-is);
@@ -143,7 +139,6 @@ ends c =
           let pointer = w.size-in-loop-from.ensures ∙ ap length (narrow-is w.sized-length.result (omega arith)) in
           let q = rw f at (ap (root_size l.prev) m ∙ root-more l.prev _ _) in
           record {
-            many = omega (arith, w.n-is, ap length m);
             root = omega (arith, w.root-is, q, w.size.ensures, pointer, ap (λ (x : ℕ). length (put narrow x)) leaf, root_none (get_or s.ids.now l.from 0));
             leaves = omega (arith, w.leaves-is, leaf, ap (λ cs. length (leaves_of cs)) m, length-append (encode (part l.from (leaf_end_lem l.from a.k s.count) es)) []);
             small = omega (arith, w.root-is, w.size.ensures, pointer, put-size wide (get_or s.ids.now l.from 0 - l.prev), put-size narrow w.sized-length.result);
@@ -153,14 +148,16 @@ ends c =
 pub overflow_add-result : goal.overflow_add-result
 overflow_add-result c =
     let e = ends (goal.at.overflow_add-result c).After-size-2 in
-    record { fits = omega (arith, e.small, c.size-2.ensures, put-size wide c.loop-from-test.n, accepts-few c.args.stores.now.count (slots c.args.stores.now) c.requires.1.inside c.requires.1.accepts) }
+    record { fits = omega (arith, e.small, c.size-2.ensures, put-size wide c.div_ceil-n.result, accepts-few c.args.stores.now.count (slots c.args.stores.now) c.requires.1.inside c.requires.1.accepts) }
 
 pub returns : goal.returns
 returns c =
+    let s = c.args.stores.now in
     let e = ends (goal.at.returns c).After-size-2 in
+    let many : c.div_ceil-n.result ≡ length (cuts c.args.k 0 s.count (slots s)) = c.div_ceil-n.ensures ∙ sym (cuts-count (slots s) c.args.k s.count c.requires.0 c.requires.1.inside) in
     record {
       leaf = refl;
-      many = e.many;
-      root = omega (arith, e.root, c.size-2.ensures, root-length (cuts c.args.k 0 c.args.stores.now.count (slots c.args.stores.now)), ap (λ (x : ℕ). length (put wide x)) e.many);
+      many = many;
+      root = omega (arith, e.root, c.size-2.ensures, root-length (cuts c.args.k 0 c.args.stores.now.count (slots c.args.stores.now)), ap (λ (x : ℕ). length (put wide x)) many);
       leaves = e.leaves;
     }

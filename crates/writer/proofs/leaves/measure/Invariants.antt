@@ -13,11 +13,9 @@ invariant-loop-from l =
     let es = slots l.stores in
     let cs = cuts l.k l.from l.stores.count es in
     let all = cuts l.k 0 l.stores.count es in
-    (l.n ≤ l.from)
-    × (l.root ≤ 22 * l.from)
+    (l.root ≤ 22 * l.from)
     × (l.leaves ≤ 40 * l.from)
     × Rising l.prev (first_ids cs)
-    × (l.n + length cs ≡ length all)
     × (l.root + root_size l.prev cs ≡ root_size 0 all)
     × (l.leaves + length (leaves_of cs) ≡ length (leaves_of all))
     × (l.from ≤ l.stores.count)

@@ -32,7 +32,8 @@ pub loop-i-preserved : goal.loop-i-preserved
 loop-i-preserved c =
     let l = c.loop-i in
     let e = row_entry c.row_at-row.result in
-    let m = row-more c.args.stores.now l.i c.args.to c.requires.inside c.loop-i-test.true c.row_at-row.result c.row_at-row.ensures in (
+    let m = row-more c.args.stores.now l.i c.args.to c.requires.inside c.loop-i-test.true c.row_at-row.result c.row_at-row.ensures in
+    rw (c.extent_of.ensures.0, c.extent_of.ensures.1) (
       (rw m at l.invariant.0).1,
       omega (arith, c.entry_size-sum.ensures, size_small l.prev (end_after l.before) e),
       omega (arith, c.entry_size-sum.ensures, ap (size_from l.prev (end_after l.before)) m ∙ size-more l.prev (end_after l.before) e _),

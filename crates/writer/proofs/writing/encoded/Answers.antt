@@ -41,7 +41,8 @@ loop-i-preserved c =
     let l = c.loop-i in
     let e = row_entry c.row_at-row.result in
     let m = row-more s l.i s.count c.requires.1 c.loop-i-test.true c.row_at-row.result c.row_at-row.ensures in
-    let g = coded-sound l.lo (end_after l.before) e _ c.in_ok-lo.ensures in (
+    let g = coded-sound l.lo (end_after l.before) e _ c.in_ok-lo.ensures in
+    rw (c.extent_of.ensures.0, c.extent_of.ensures.1) (
       omega (arith, g.2),
       omega (arith, c.entry_size-sum.ensures, size_small l.prev (end_after l.before) e),
       omega (arith, c.entry_size-sum.ensures, ap (size_from l.prev (end_after l.before)) m ∙ size-more l.prev (end_after l.before) e _),
