@@ -11,7 +11,7 @@ use refusal::Refusal;
 use varint::Cursor;
 
 // Ids: differences, summed from 0.
-// Stays: three loops of one shape: one over a closure would need a contract on what the closure's calls answer.
+// Stays: three loops that are alike: over a closure, one needs a contract on the closure's answers, which is longer.
 #[tactic(auto, using(crate::proofs::Turns::turn))]
 pub(crate) fn read_ids(bytes: &[u8], from: Cursor, ids: &mut [u64]) -> Result<Cursor, Refusal>
     ensures { said_column result ids.new ≡ column_at wide id_step (length ids.old) 0 bytes.now from.at }

@@ -17,7 +17,7 @@ pub fn wide(x: u32) -> u64
 
 impl DirEntry {
     // An entry whose id was a plain number until now.
-    // Stays: its parameters are the struct's fields, one by one, as the clause `new_entry` has them.
+    // Stays: four parameters and not a Row: public, no crate calls it, and a caller would make a Row first.
     #[tactic(auto, unfolding(crate::specs::Answers::new_entry, tile::specs::Answers::new_id))]
     pub fn new(id: u64, run_length: u32, length: u32, offset: Offset) -> Result<DirEntry, Refusal>
         ensures { said_entry result ≡ new_entry id run_length length offset.0 }

@@ -11,6 +11,7 @@ use refusal::Refusal;
 use varint::Cursor;
 
 // The four stores as one, for the checks.
+// Stays: a function, since the literal over what is lent mutably is refused where it stands.
 fn lent<'a>(
     count: usize,
     ids: &'a [u64],
@@ -84,7 +85,7 @@ fn fill(
 }
 
 // A refusal leaves every slot of all four stores zero.
-// Stays: four slices, here and above: in a struct, clauses would reach what they hold only through references.
+// Stays: four slices here, in fill and in read_entries: in a struct, clauses would reach what they hold by references.
 #[tactic(auto, using(crate::proofs::Kept::as_read))]
 pub fn read(
     bytes: &[u8],

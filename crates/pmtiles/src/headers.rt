@@ -66,7 +66,7 @@ pub fn pmt_header_read(bytes: &[u8], out: &mut [u64], degrees: &mut [f64]) -> u8
 }
 
 // Whether each number fits its field, save the codes: one above 255 is as unknown as 255.
-// Stays: apart from to_byte, which may not refuse: a code above 255 is 255, answered after these (`making_header`).
+// Stays: apart from to_byte, which the codes need too: one above 255 is 255, answered later (`making_header`).
 #[tactic(auto, unfolding(crate::specs::Headers::fitting))]
 fn fits(numbers: &[u64; 19]) -> bool
     ensures { result ≡ fitting numbers.now }

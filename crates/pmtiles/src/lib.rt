@@ -1,6 +1,6 @@
 // The core by lent slots: each function answers a status, 0 for done or found, 255 for absent, else a refusal's number,
 // and puts its values into lent slots. Crate pmtiles_c exports the same functions to C.
-// Stays: statuses as numbers, and lent slices that are parameters one by one: C calls every pmt_* (include/pmtiles.h).
+// Stays: statuses as numbers, lent slices one by one: pmtiles_c exports each pmt_* to C so (include/pmtiles.h).
 #![tactic(auto)]
 
 mod builds;

@@ -28,7 +28,7 @@ pub fn pmt_total(root: u64, metadata: u64, tiles: u64, leaves: u64, out: &mut [u
 }
 
 // Whether each zoom fits its field. A code needs no test: one above 255 is as unknown as 255.
-// Stays: apart from to_byte, which may not refuse: a code above 255 is 255, answered after these (`publishing_given`).
+// Stays: apart from to_byte, which the codes need too: one above 255 is 255, answered later (`publishing_given`).
 #[tactic(auto, unfolding(crate::specs::Publishes::zooms_fit_lem))]
 fn zooms_fit(settings: &[u64; 5]) -> bool
     ensures { result ≡ zooms_fit_lem settings.now }

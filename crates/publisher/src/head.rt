@@ -9,7 +9,7 @@ use acceptance::Counts;
 use header::{HEADER_SIZE, Header, MAX_INITIAL_BYTES};
 
 // The header of an archive whose sections have so many bytes. The contents are not counted.
-// Stays: settings and counts side by side, as `publish`, which is public, takes them.
+// Stays: settings and counts apart: one is the caller's, the other the builder's, and only the header joins them.
 #[tactic(auto, unfolding(crate::specs::Plan::header_for, header::specs::Header::default_header))]
 pub(crate) fn heading(settings: Settings, counts: Counts, lengths: Lengths) -> Header
     requires { 16384 + lengths.metadata + lengths.tiles ≤ 2 ^ 64 - 1 }

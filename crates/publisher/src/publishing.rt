@@ -64,7 +64,7 @@ fn admit(
 }
 
 // The stores of a publication that is accepted, as many as the call covers.
-// Stays: settings and counts side by side, as `publish`, which is public, takes them.
+// Stays: settings and counts apart: one is the caller's, the other the builder's, and only the header joins them.
 #[tactic(auto, unfolding(header::specs::Header::write_header, crate::specs::Plan::header_for))]
 fn fill(settings: Settings, counts: Counts, parts: &Parts, dest: &mut [u8], mut cut: Cut)
     requires { over_lengths parts.now (Accepted settings) (length dest.old) }

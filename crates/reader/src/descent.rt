@@ -19,7 +19,7 @@ fn part(archive: &[u8], start: u64, size: u64) -> &[u8]
 }
 
 // From the root down: at most three directories follow it.
-// Stays: `archive` and `s` side by side, as the public `leaf_range` and `tile_range` take them.
+// Stays: archive and s apart: a struct of both would say that they belong together, which no clause asks.
 #[tactic(auto, using(crate::proofs::Inside::range_inside, crate::proofs::Descents::searched, crate::proofs::Descents::unsearched, crate::proofs::Descents::onward_leaf))]
 fn descend(
     archive: &[u8],

@@ -70,7 +70,7 @@ fn range_in(s: Section, total: u64, e: DirEntry) -> Result<Located, Refusal>
 }
 
 // The leaf that a pointer of an archive points to.
-// Stays: `archive` and `s` side by side, here and below: both functions are public (docs/PROMISES.md).
+// Stays: archive and s apart: a struct of both would say that they belong together, which no clause asks.
 pub fn leaf_range(archive: &[u8], s: Sections, pointer: DirEntry) -> Result<Located, Refusal>
     ensures { said_ranged result ≡ range_in_lem (section_of s.leaves) (length archive.now) (entry_of pointer) }
 {

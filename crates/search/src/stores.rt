@@ -19,7 +19,7 @@ pub fn find_tile_id(stores: &Stores, target: TileId) -> Result<Found, Refusal>
     let Some(i) = above.checked_sub(1) else {
         return Ok(Found::Absent);
     };
-    // Stays: the row is made here, as in directory/src/checking.rt.
+    // Stays: the row is made here, since a public function could not ask that the slot is there.
     let row = Row {
         id: stores.ids[i],
         run_length: stores.runs[i],

@@ -51,6 +51,7 @@ fn number(s: &[u8], at: usize, before: usize, cap: u64) -> Result<(u64, Cursor),
 {
     let mut value = 0;
     let mut scale = 1;
+    // Stays: by place, since the place behind the number is a part of the answer.
     for p in at..s.len() {
         let b = u64::from(s[p]);
         if p - at == before {

@@ -17,7 +17,7 @@ pub(crate) fn code(before: Option<Extent>, offset: Offset) -> Option<u64>
 }
 
 // The entry in a slot of the stores.
-// Stays: the row is made here, as in directory/src/checking.rt.
+// Stays: the row is made here, since a public function could not ask that the slot is there.
 #[tactic(auto, using(crate::proofs::Parts::lengths))]
 pub(crate) fn row_at(stores: &Stores, i: usize) -> Row
     requires { i < length (slots stores.now) }
@@ -53,7 +53,7 @@ pub(crate) fn entry_size(prev: u64, before: Option<Extent>, row: Row) -> usize
 }
 
 // How many bytes a range of the entries takes as a directory: one pass.
-// Stays: three parameters: only this and put_entries take a range, and each of the five calls would make a struct.
+// Stays: from and to apart: a Range is not Copy, and `put_entries` cuts four stores by its ends.
 pub(crate) fn sized(stores: &Stores, from: usize, to: usize) -> usize
     requires { Ready from to (slots stores.now) }
     ensures { result ≡ length (encode (part from to (slots stores.now))) }
