@@ -1,4 +1,4 @@
--- What `stored_of` cites: a float rounded to a whole number and cast to an i32 is its `whole_of`. Assumes nothing.
+-- The same by std's words: a float rounded to a whole number and cast to an i32 is its `whole_of`. Assumes nothing.
 use mathlib.Core.Path.{◌≡◌, refl, sym, ap, ◌∙◌}
 use mathlib.Core.Bool.{Bool, true, false, cond, true≢false, ◌&&◌, ◌||◌}
 use Prim.Native.Nat.{ℕ, zero, suc, ◌+◌, ◌*◌, ◌/◌, ◌^◌, ◌≤◌, ◌<◌}

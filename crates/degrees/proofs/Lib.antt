@@ -2,3 +2,4 @@ pub mod Examples
 pub mod Nearest
 pub mod Sizes
 pub mod Casts
+pub mod FromBits

@@ -14,6 +14,7 @@ use Rattle.directory.specs.Entries.{max_count}
 use Rattle.directory.specs.Columns.{columns}
 use Rattle.directory.specs.Decode.{decode}
 use Rattle.directory.specs.Search.{counting, shortest}
+use Rattle.directory.specs.Stores.{reading}
 
 -- a count that the shortest store has room for fits each
 pub in-each : (n : ℕ) (a b c d : List ℕ) → n ≤ shortest a b c d → (n ≤ length a) × (n ≤ length b) × (n ≤ length c) × (n ≤ length d)
@@ -53,3 +54,8 @@ module _ {A : Type 0} (a b c d : List ℕ) (x : Out A) where
 pub counts-read : (decode none (128 ∷ 128 ∷ 128 ∷ 8 ∷ []) ≡ bad 8) × (decode none (129 ∷ 128 ∷ 128 ∷ 8 ∷ []) ≡ bad 19)
 unfolding decode columns read
 counts-read = (refl, refl)
+
+-- no bytes are no directory
+pub no-directory : (ids runs lens offs : List ℕ) → reading [] ids runs lens offs ≡ bad 8
+unfolding decode columns read
+no-directory ids runs lens offs = refl

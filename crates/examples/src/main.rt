@@ -3,7 +3,7 @@
 // in the file stdout, written by hand from the format's rules.
 #![tactic(auto)]
 
-ghost use Rattle.std.specs.Prelude.{◌<◌, length, IfSome};
+ghost use Rattle.std.specs.Prelude.{◌≤◌, ◌<◌, length, IfOk, IfSome};
 
 use std::io::{self, Read};
 
@@ -18,7 +18,7 @@ mod varints;
 mod writing;
 
 // The examples are at most so many bytes.
-const MOST: u64 = 65536;
+const MOST: usize = 65536;
 
 // An example: its kind, its name, its numbers and its bytes.
 #[derive(Clone, Copy)]
@@ -59,9 +59,26 @@ fn run(rt: &impl Print, list: &[u8]) -> io::Result<()> {
     Ok(())
 }
 
-// Stays: also in replay/src/main.rt; a crate for these three lines would be longer than they are.
+// Reads until the buffer is full or the input ends, and answers how many bytes of it are read.
+// Stays: a buffer of a size that is fixed: `read_to_end` needs the heap, where this needs no memory that may be refused.
+// Stays: also in replay/src/main.rt; a crate for these few lines would be longer than they are.
+fn read_full(rt: &impl Input, buffer: &mut [u8]) -> io::Result<usize>
+    ensures { IfOk result (λ n. n ≤ length buffer.new) }
+{
+    let mut input = rt.reader();
+    let mut done: usize = 0;
+    while done < buffer.len() {
+        let n = input.read(&mut buffer[done..])?;
+        if n == 0 {
+            break;
+        }
+        done += n;
+    }
+    Ok(done)
+}
+
 fn main(rt: HostRuntime) -> io::Result<()> {
-    let mut list = Vec::new(rt.alloc());
-    rt.reader().take(MOST).read_to_end(&mut list)?;
-    run(&rt, &list)
+    let mut list = [0; MOST];
+    let n = read_full(&rt, &mut list)?;
+    run(&rt, &list[..n])
 }

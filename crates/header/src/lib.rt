@@ -106,13 +106,15 @@ impl Header {
         if bytes.len() < 7 {
             return Err(Refusal::InvalidHeader);
         }
-        if bytes.starts_with(b"PMTiles") {
-            read::read_fields(bytes)
-        } else if bytes.starts_with(b"PM") {
-            Err(Refusal::UnsupportedPmTilesVersion)
-        } else {
-            Err(Refusal::InvalidMagicNumber)
+        // Stays: returned early: as one of three cases, a refusal would be copied with all the room that a header takes.
+        if !bytes.starts_with(b"PMTiles") {
+            return Err(if bytes.starts_with(b"PM") {
+                Refusal::UnsupportedPmTilesVersion
+            } else {
+                Refusal::InvalidMagicNumber
+            });
         }
+        read::read_fields(bytes)
     }
 
     // The header into the first 127 bytes of an output. All fields go as they are held, the version too.

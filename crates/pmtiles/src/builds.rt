@@ -46,6 +46,10 @@ pub fn pmt_build_sizes(
         (within 2 out.old (sizes_in (accepting count ids.now runs.now lengths.now offsets.now data_length)))
         (λ s. s.root ∷ s.leaves ∷ []) out.old result out.new }
 {
+    // Stays: room is tested before the entries are gone over, which no clause sees; tell tests after.
+    if out.len() < 2 {
+        return Refusal::RoomTooShort.number();
+    }
     let stores = Stores {
         count,
         ids,

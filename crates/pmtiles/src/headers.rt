@@ -43,11 +43,12 @@ pub fn pmt_header_read(bytes: &[u8], out: &mut [u64], degrees: &mut [f64]) -> u8
     ensures { HeaderTold (lent out.old degrees.old (read_header bytes.now)) result
         out.old out.new degrees.old degrees.new }
 {
-    // Stays: room is tested before degrees are touched: a refusal keeps them (`HeaderTold`); tell tests after.
+    // Stays: room is tested for both before either is touched: a refusal keeps them (`HeaderTold`); tell tests the slots'.
     if out.len() < 19 || degrees.len() < 6 {
         return Refusal::RoomTooShort.number();
     }
     let header = Header::try_from_bytes(bytes);
+    let told = tell(out, header);
     if let Ok(h) = header {
         let d = h.degrees;
         put(
@@ -62,7 +63,7 @@ pub fn pmt_header_read(bytes: &[u8], out: &mut [u64], degrees: &mut [f64]) -> u8
             ],
         );
     }
-    tell(out, header)
+    told
 }
 
 // Whether each number fits its field, save the codes: one above 255 is as unknown as 255.

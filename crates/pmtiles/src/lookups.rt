@@ -9,6 +9,7 @@ ghost use Rattle.pmtiles.specs.Exports.{Sought, entry_found, entry_values, searc
 use crate::slots::{Values, tell_found};
 use directory::{DirEntry, Found};
 use reader::Located;
+use refusal::Refusal;
 use tile::{TileCoord, TileId};
 
 impl Values<2> for Located {
@@ -58,6 +59,10 @@ pub fn pmt_lookup_coord(archive: &[u8], z: u8, x: u32, y: u32, out: &mut [u64]) 
 pub fn pmt_directory_find(bytes: &[u8], id: u64, out: &mut [u64]) -> u8
     ensures { Sought (within 4 out.old (searched (find_in bytes.now id))) entry_values out.old result out.new }
 {
+    // Stays: room is tested before the directory is walked, which no clause sees; tell_found tests after.
+    if out.len() < 4 {
+        return Refusal::RoomTooShort.number();
+    }
     tell_found(
         out,
         TileId::new(id)

@@ -21,6 +21,10 @@ pub fn pmt_encoded_len(
         (within 1 out.old (length_of (encoding count ids.now runs.now lengths.now offsets.now)))
         (λ n. n ∷ []) out.old result out.new }
 {
+    // Stays: room is tested before the entries are gone over, which no clause sees; tell tests after.
+    if out.is_empty() {
+        return Refusal::RoomTooShort.number();
+    }
     let stores = Stores {
         count,
         ids,

@@ -5,7 +5,12 @@ use native.Mathlib.Omega.{arith}
 use borrow.Author.Tests.{ne_eqb}
 use Rattle.acceptance.specs.declared.Counts.{Counts}
 use Rattle.publisher.specs.Plan.{header_for}
+use Rattle.publisher.specs.Publish.{total}
 use Rattle.publisher.specs.declared.Settings.{Settings}
+
+-- 16,384 zeros and the header's 127 bytes over them
+pub fewest : total 0 0 0 0 ≡ 16384 + 127
+fewest = refl
 
 module _ (s : Settings) (c : Counts) (r m d : ℕ) where
   -- where there are no leaves their offset is 0, else they lie behind the data

@@ -37,7 +37,21 @@ fn section(src: &[u8], dest: &mut [u8], place: usize, cut: &mut Cut)
     ensures { Done (upward place src.now) cut.old dest.old cut.new dest.new }
 {
     let part = cut.pass(src.len());
-    dest[place + part.start..place + part.end].copy_from_slice(&src[part]);
+    copy_up(
+        &src[part.start..part.end],
+        &mut dest[place + part.start..place + part.end],
+    );
+}
+
+// Each byte of src into its slot, upward, as the plan stores them.
+// Stays: a loop, since `copy_from_slice` is a memmove, which stores in an order of its own.
+fn copy_up(src: &[u8], dest: &mut [u8])
+    requires { length src.now ≡ length dest.old }
+    ensures { dest.new ≡ src.now }
+{
+    for (i, slot) in dest.iter_mut().enumerate() {
+        *slot = src[i];
+    }
 }
 
 // The zeros, metadata, data and leaves.

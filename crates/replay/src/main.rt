@@ -2,14 +2,14 @@
 // README.md says how both were made.
 #![tactic(auto)]
 
-ghost use Rattle.std.specs.Prelude.{◌<◌, length, IfSome};
+ghost use Rattle.std.specs.Prelude.{◌≤◌, ◌<◌, length, IfOk, IfSome};
 
 use std::io::{self, Read};
 
 mod answers;
 
 // How much of a list is read.
-const MOST: u64 = 262144;
+const MOST: usize = 262144;
 
 // The first input of a list, and the list behind it. An input is its kind, its length in two bytes, lowest first, and
 // so many bytes.
@@ -31,9 +31,26 @@ fn replay(rt: &impl Print, list: &[u8]) -> io::Result<()> {
     Ok(())
 }
 
-// Stays: also in examples/src/main.rt; a crate for these three lines would be longer than they are.
+// Reads until the buffer is full or the input ends, and answers how many bytes of it are read.
+// Stays: a buffer of a size that is fixed: `read_to_end` needs the heap, where this needs no memory that may be refused.
+// Stays: also in examples/src/main.rt; a crate for these few lines would be longer than they are.
+fn read_full(rt: &impl Input, buffer: &mut [u8]) -> io::Result<usize>
+    ensures { IfOk result (λ n. n ≤ length buffer.new) }
+{
+    let mut input = rt.reader();
+    let mut done: usize = 0;
+    while done < buffer.len() {
+        let n = input.read(&mut buffer[done..])?;
+        if n == 0 {
+            break;
+        }
+        done += n;
+    }
+    Ok(done)
+}
+
 fn main(rt: HostRuntime) -> io::Result<()> {
-    let mut list = Vec::new(rt.alloc());
-    rt.reader().take(MOST).read_to_end(&mut list)?;
-    replay(&rt, &list)
+    let mut list = [0; MOST];
+    let n = read_full(&rt, &mut list)?;
+    replay(&rt, &list[..n])
 }

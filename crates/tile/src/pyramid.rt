@@ -39,7 +39,7 @@ pub const PYRAMID_SIZE_BY_ZOOM: [u64; 32] = [
     1537228672809129301,
 ];
 
-// The first id of a zoom. By arithmetic, since a use of the table would lay all of it on the stack.
+// The first id of a zoom, by arithmetic: a shift and a division by 3 need no memory.
 pub(crate) fn base_of(z: u8) -> u64
     requires { z < 32 }
     ensures { result ≡ base z }
@@ -54,14 +54,15 @@ pub(crate) struct Level {
     pub(crate) base: u64,
 }
 
-// The zoom of an id. A zoom's first id is (4 ^ z - 1) / 3, so 4 ^ z is at most 3 * id + 1, and 4 ^ (z + 1) above it.
+// The zoom of an id, and the table's base of it. A zoom's first id is (4 ^ z - 1) / 3, so 4 ^ z is at most 3 * id + 1, and
+// 4 ^ (z + 1) above it.
 pub(crate) fn level_of(id: u64) -> Level
     requires { id ≤ max_id }
     ensures { (result.z ≡ zoom_of id) × (result.base ≡ base (zoom_of id)) }
 {
-    let z = ((3 * id + 1).ilog2() / 2) as u8;
+    let z = ((3 * id + 1).ilog2() / 2) as usize;
     Level {
-        z,
-        base: base_of(z),
+        z: z as u8,
+        base: PYRAMID_SIZE_BY_ZOOM[z],
     }
 }

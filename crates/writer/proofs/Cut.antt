@@ -12,12 +12,14 @@ use Rattle.directory.specs.Columns.{entries}
 use Rattle.directory.specs.Encode.{encode}
 use Rattle.directory.proofs.Round.{ids}
 use Rattle.acceptance.specs.Accept.{Accepts}
+use Rattle.writer.specs.Stock.{Stock}
 use Rattle.writer.specs.Build.{chunks, first_id, leaves_of}
 use Rattle.writer.specs.Cells.{Rising, part}
 use Rattle.writer.specs.Cuts.{cuts, every, first_ids, leaf_end_lem}
-use Rattle.writer.proofs.Chunks.{chunk-fuel, chunk-step, chunks-count}
+use Rattle.writer.proofs.Chunks.{AllLeaf, all-leaf, chunk-fuel, chunk-step, chunks-count, joined, joined-chunks}
 use Rattle.writer.proofs.Lengths.{encode-size}
 use Rattle.writer.proofs.Parts.{cell-more, drop-take, ids-part, ids-rise, ranged, part_length, part_none, rest-more}
+use Rattle.writer.proofs.Pointers.{firsts-rise}
 use Rattle.writer.proofs.Puts.{Kept, recut}
 use Rattle.writer.proofs.Stocks.{accepts-few, accepts-ready}
 
@@ -78,6 +80,16 @@ module _ (es : List Entry) (k n : ℕ) (m : n ≤ length es) where
   pub cuts-all : cuts k 0 n es ≡ chunks (length (part 0 n es)) k (part 0 n es)
   unfolding cuts
   cuts-all = ap (λ (f : ℕ). chunks f k (part 0 n es)) (sym (part_length es 0 n m))
+
+  module _ (h : 0 < k) (s : Stock (part 0 n es)) where
+    pub cuts-leaf : AllLeaf (cuts k 0 n es)
+    cuts-leaf = rw cuts-all (all-leaf (length (part 0 n es)) k (part 0 n es) h s)
+
+    pub cuts-joined : joined (cuts k 0 n es) ≡ part 0 n es
+    cuts-joined = ap joined cuts-all ∙ joined-chunks (length (part 0 n es)) k (part 0 n es) h (omega arith)
+
+    pub cuts-rise : Rising 0 (first_ids (cuts k 0 n es))
+    cuts-rise = firsts-rise (cuts k 0 n es) cuts-leaf (rw cuts-joined s)
 
 -- how many leaves there are
 pub cuts-count : (es : List Entry) (k n : ℕ) → 0 < k → n ≤ length es → length (cuts k 0 n es) ≡ div_ceil n k
@@ -143,8 +155,8 @@ module _ (a b c d : List ℕ) (k n : ℕ) (h : 0 < k) (m : n ≤ length (entries
       every-rises k 0 0 (part 0 n a)
       (rw (ranged 0 n a (omega arith)) at (ids-rise a b c d 0 n m (omega arith) (accepts-ready n (entries a b c d) m s 0 n (omega arith) (omega arith)).codable))
 
-  pub cuts-rise : Accepts (2 ^ 64 - 1) (part 0 n (entries a b c d)) → Rising 0 (first_ids (cuts k 0 n (entries a b c d)))
-  cuts-rise s = rw firsts-are (front-rise s)
+  pub firsts-rising : Accepts (2 ^ 64 - 1) (part 0 n (entries a b c d)) → Rising 0 (first_ids (cuts k 0 n (entries a b c d)))
+  firsts-rising s = rw firsts-are (front-rise s)
 
   module _ (i : ℕ) (l : i < n) where
     -- a leaf's first id is that of the entry where it starts

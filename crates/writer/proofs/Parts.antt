@@ -11,7 +11,7 @@ use Rattle.std.specs.Prelude.{slice_range}
 use Rattle.varint.specs.Varint.{narrow, put, wide}
 use Rattle.directory.specs.Entries.{Entry, entry}
 use Rattle.directory.specs.Columns.{entries}
-use Rattle.directory.specs.Encode.{code_of, codes, differences, encode, put_all}
+use Rattle.directory.specs.Encode.{Fitting, code_of, codes, differences, encode, put_all}
 use Rattle.directory.specs.Search.{shortest, stored}
 use Rattle.directory.proofs.Round.{ids, lens, offs, runs}
 use Rattle.writer.proofs.Puts.{bytes_of}
@@ -116,6 +116,10 @@ differences-ids prev (e ∷ es) = ap {B = List ℕ} (λ t. (e.id - prev) ∷ t) 
 codes-columns : (p : Option ℕ) (es : List Entry) → codes p es ≡ offset_codes p (lens es) (offs es)
 codes-columns p [] = refl
 codes-columns p (e ∷ es) = ap {B = List ℕ} (λ t. code_of p e.off ∷ t) (codes-columns (some (e.off + e.len)) es)
+
+pub fitting-rises : (prev : ℕ) (p : Option ℕ) (es : List Entry) → Fitting prev p es → Rising prev (ids es)
+fitting-rises prev p [] f = tt
+fitting-rises prev p (e ∷ es) f = (f.0.rises, fitting-rises e.id (some (e.off + e.len)) es f.1)
 
 codable-rises : (prev : ℕ) (p : Option ℕ) (es : List Entry) → Codable prev p es → Rising prev (ids es)
 codable-rises prev p [] f = tt

@@ -18,12 +18,12 @@ use Rattle.directory.specs.Encode.{Fitting, codes, encode, put_all}
 use Rattle.directory.proofs.Round.{decode-encode, ids, lens, runs}
 use Rattle.writer.specs.Stock.{Stock}
 use Rattle.writer.specs.Build.{first_id, leaves_of, pointers}
-use Rattle.writer.specs.Cells.{deltas}
+use Rattle.writer.specs.Cells.{Rising, deltas}
 use Rattle.writer.specs.Cuts.{first_ids, leaf_codes, leaf_lengths}
 use Rattle.writer.proofs.Chunks.{AllLeaf, joined}
 use Rattle.writer.proofs.Codes.{code-le}
 use Rattle.writer.proofs.Lengths.{encode-size}
-use Rattle.writer.proofs.Parts.{differences-ids}
+use Rattle.writer.proofs.Parts.{differences-ids, fitting-rises}
 use Rattle.writer.proofs.Puts.{bytes_of}
 use Rattle.writer.proofs.Stocks.{weaken}
 
@@ -161,6 +161,9 @@ pub codes-length : (n : ℕ) → length (leaf_codes n) ≡ n
 unfolding leaf_codes
 codes-length zero = refl
 codes-length (suc n) = ap (λ (m : ℕ). suc m) (length-replicate n 0)
+
+pub firsts-rise : (cs : List (List Entry)) → AllLeaf cs → Stock (joined cs) → Rising 0 (first_ids cs)
+firsts-rise cs a s = rw (pointer-ids 0 cs) at (fitting-rises 0 none (pointers 0 cs) (pointers-fit cs a s))
 
 -- ---- the root's size, leaf by leaf: a run and a code take a byte each
 

@@ -10,7 +10,7 @@ use Rattle.directory.specs.Encode.{encode}
 use Rattle.writer.specs.Build.{leaves_of}
 use Rattle.writer.specs.Cells.{part, slots}
 use Rattle.writer.specs.Cuts.{cuts, leaf_end_lem}
-use Rattle.writer.proofs.Cut.{cuts-count, cuts-last, cuts-more, cuts-none, cuts-rise, end-in, end_low, first-is, leaf-size}
+use Rattle.writer.proofs.Cut.{cuts-count, cuts-last, cuts-more, cuts-none, end-in, end_low, first-is, firsts-rising, leaf-size}
 use Rattle.writer.proofs.Lengths.{narrow-is}
 use Rattle.writer.proofs.Parts.{entries-length}
 use Rattle.writer.proofs.Pointers.{root-length, root-more, root_none, root_size}
@@ -56,7 +56,7 @@ pub loop-from-init : goal.loop-from-init
 loop-from-init c =
     let a = c.args in
     let p = c.requires in
-    (omega arith, omega arith, cuts-rise a.stores.now.ids.now a.stores.now.runs.now a.stores.now.lengths.now a.stores.now.offsets.now a.k a.stores.now.count p.0 p.1.inside p.1.accepts, omega arith, omega arith, omega arith)
+    (omega arith, omega arith, firsts-rising a.stores.now.ids.now a.stores.now.runs.now a.stores.now.lengths.now a.stores.now.offsets.now a.k a.stores.now.count p.0 p.1.inside p.1.accepts, omega arith, omega arith, omega arith)
 
 pub sized-length-requires : goal.sized-length-requires
 sized-length-requires c =
