@@ -114,7 +114,8 @@ impl Header {
                 Refusal::InvalidMagicNumber
             });
         }
-        read::read_fields(bytes)
+        let start = read::known_start(bytes)?;
+        Ok(read::fields_of(start))
     }
 
     // The header into the first 127 bytes of an output. All fields go as they are held, the version too.

@@ -3,7 +3,6 @@ ghost use Rattle.std.specs.Prelude.{◌≡◌, ◌+◌, ◌≤◌, leb, length};
 ghost use Rattle.refusal.specs.Number.{number_of};
 ghost use Rattle.refusal.specs.Out.{need, ok};
 ghost use Rattle.refusal.specs.Said.{said};
-ghost use Rattle.header.specs.Answers.{said_read};
 ghost use Rattle.header.specs.Bytes.{byte_at, number_at};
 ghost use Rattle.header.specs.Header.{degree_at_lem, degrees_at_lem, fields_of, read_fields_lem};
 
@@ -44,7 +43,7 @@ fn degrees_at(bytes: &[u8; HEADER_SIZE]) -> Degrees
 
 // The fields of a header that is whole.
 #[tactic(auto, unfolding(crate::specs::Header::fields_of))]
-fn fields_of(bytes: &[u8; HEADER_SIZE]) -> Header
+pub(crate) fn fields_of(bytes: &[u8; HEADER_SIZE]) -> Header
     ensures { result ≡ fields_of bytes.now }
 {
     Header {
@@ -79,14 +78,16 @@ fn code_at(bytes: &[u8], at: usize, largest: u8, unknown: Refusal) -> Result<(),
     known(code, largest, unknown)
 }
 
-// The fields in order: each code is tested where it stands, even if fields behind it are missing.
+// The bytes of a header, in order: each code is tested where it stands, even if fields behind it are missing.
+// The bytes and not yet the fields, so that a refusal moves no header about.
+// Stays: `?` and `Ok`, since the clause did not prove of the `ok_or` itself.
 #[tactic(auto, using(crate::proofs::Start::fields_start), unfolding(crate::specs::Header::read_fields_lem))]
-pub(crate) fn read_fields(bytes: &[u8]) -> Result<Header, Refusal>
-    ensures { said_read result ≡ read_fields_lem bytes.now }
+pub(crate) fn known_start(bytes: &[u8]) -> Result<&[u8; HEADER_SIZE], Refusal>
+    ensures { said (λ start. fields_of start.now) result ≡ read_fields_lem bytes.now }
 {
     code_at(bytes, 97, MAX_COMPRESSION, Refusal::InvalidCompression)?;
     code_at(bytes, 98, MAX_COMPRESSION, Refusal::InvalidCompression)?;
     code_at(bytes, 99, MAX_TILE_TYPE, Refusal::InvalidTileType)?;
     let start = bytes.first_chunk().ok_or(Refusal::InvalidHeader)?;
-    Ok(fields_of(start))
+    Ok(start)
 }
